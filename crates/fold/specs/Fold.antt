@@ -1,0 +1,143 @@
+-- Sums, counts, tests and searches over the indices below a bound, as definitions that compute, and the law of each at a loop's
+-- next turn and at its end. Every loop over positions, slots or lines in the crates above is stated by these.
+-- Assumes nothing.
+use mathlib.Core.Path.{_≡_, refl, sym, ap, ap₂, _∙_, subst}
+use mathlib.Core.Bool.{Bool, true, false, cond, _&&_, _||_, and-false, or-true}
+use mathlib.Core.Logic.{⊎-elim}
+use Prim.Native.Nat.{ℕ, zero, suc, _+_, _≤_, _<_}
+use native.Mathlib.Nat.{le-of-suc-le-suc, not-suc-le-zero, eq-or-lt-of-le}
+use native.Mathlib.Numerals.{add-one}
+use native.Mathlib.Omega.{arith}
+use lib.Dec.{T}
+use Rattle.fold.specs.Test.{is-true, of-true, is-false, of-false, both, both-of, left, right, either-of}
+
+-- ---- definitions
+
+-- the number of a test: 1 where it passes
+abbrev pub bit : Bool → ℕ
+bit true = 1
+bit false = 0
+
+-- f 0 + .. + f (k - 1)
+unfoldable pub sum : ℕ → (ℕ → ℕ) → ℕ
+sum zero f = 0
+sum (suc k) f = sum k f + f k
+
+-- how many of the indices below k pass
+unfoldable pub count : ℕ → (ℕ → Bool) → ℕ
+unfolding sum
+count k p = sum k λ i. bit (p i)
+
+-- some index below k passes
+unfoldable pub some : ℕ → (ℕ → Bool) → Bool
+some zero p = false
+some (suc k) p = some k p || p k
+
+-- each index below k passes
+unfoldable pub each : ℕ → (ℕ → Bool) → Bool
+each zero p = true
+each (suc k) p = each k p && p k
+
+-- the lowest index below k that passes, or k
+unfoldable pub lowest : ℕ → (ℕ → Bool) → ℕ
+lowest zero p = 0
+lowest (suc k) p = cond (p 0) 0 (suc (lowest k λ i. p (suc i)))
+
+-- ---- an index below the next bound
+
+pub below-suc : (P : ℕ → Type 0) (k : ℕ) → ((j : ℕ) → j < k → P j) → P k → (j : ℕ) → j < suc k → P j
+below-suc P k all here j h = ⊎-elim (λ e. subst P (sym e) here) (λ l. all j l) (eq-or-lt-of-le (le-of-suc-le-suc h))
+
+-- ---- where a loop begins, and its next turn
+
+pub sum-none : (f : ℕ → ℕ) → sum 0 f ≡ 0
+unfolding sum
+sum-none f = refl
+
+pub sum-next : (k : ℕ) (f : ℕ → ℕ) → sum (k + 1) f ≡ sum k f + f k
+unfolding sum
+sum-next k f = rw add-one
+
+pub count-none : (p : ℕ → Bool) → count 0 p ≡ 0
+unfolding count
+count-none p = refl
+
+pub count-next : (k : ℕ) (p : ℕ → Bool) → count (k + 1) p ≡ count k p + bit (p k)
+unfolding count
+count-next k p = sum-next k λ i. bit (p i)
+
+-- ---- some
+
+pub some-at : (n : ℕ) (p : ℕ → Bool) (k : ℕ) → k < n → T (p k) → T (some n p)
+unfolding some
+some-at zero p k h t = absurd (not-suc-le-zero h)
+some-at (suc n) p k h t =
+    ⊎-elim (λ e. right (some n p) (p n) (subst (λ m. T (p m)) e t)) (λ l. left (some n p) (p n) (some-at n p k l t))
+    (eq-or-lt-of-le (le-of-suc-le-suc h))
+
+pub some-of : (n : ℕ) (p : ℕ → Bool) → T (some n p) → (k : ℕ) × (k < n) × T (p k)
+unfolding some
+some-of zero p t = absurd t
+some-of (suc n) p t =
+    ⊎-elim (λ s. let w = some-of n p s in (w .0, omega arith, w .2)) (λ s. (n, omega arith, s)) (either-of (some n p) (p n) t)
+
+-- none so far, and not the next; found
+pub no-some : (p : ℕ → Bool) → some 0 p ≡ false
+unfolding some
+no-some p = refl
+
+pub none-next : (k : ℕ) (p : ℕ → Bool) → some k p ≡ false → p k ≡ false → some (k + 1) p ≡ false
+unfolding some
+none-next k p a b = rw add-one (ap₂ _||_ a b)
+
+pub some-found : (n : ℕ) (p : ℕ → Bool) (k : ℕ) → k < n → p k ≡ true → some n p ≡ true
+some-found n p k h e = is-true (some n p) (some-at n p k h (of-true e))
+
+pub none-i : (n : ℕ) (p : ℕ → Bool) → ((k : ℕ) → k < n → T (p k) → ⊥) → some n p ≡ false
+none-i n p h = is-false (some n p) (λ t. let w = some-of n p t in h (w .0) (w .1) (w .2))
+
+pub none-at : (n : ℕ) (p : ℕ → Bool) → some n p ≡ false → (k : ℕ) → k < n → T (p k) → ⊥
+none-at n p e k h t = of-false e (some-at n p k h t)
+
+-- ---- each
+
+pub each-at : (n : ℕ) (p : ℕ → Bool) → T (each n p) → (k : ℕ) → k < n → T (p k)
+unfolding each
+each-at zero p t k h = absurd (not-suc-le-zero h)
+each-at (suc n) p t k h =
+    let w = both-of (each n p) (p n) t in
+    below-suc (λ k. T (p k)) n (each-at n p (w .0)) (w .1) k h
+
+pub each-i : (n : ℕ) (p : ℕ → Bool) → ((k : ℕ) → k < n → T (p k)) → T (each n p)
+unfolding each
+each-i zero p h = tt
+each-i (suc n) p h = both (each n p) (p n) (each-i n p (λ k l. h k (omega arith))) (h n (omega arith))
+
+-- each so far, and the next; one that fails
+pub each-none : (p : ℕ → Bool) → each 0 p ≡ true
+unfolding each
+each-none p = refl
+
+pub each-next : (k : ℕ) (p : ℕ → Bool) → each k p ≡ true → p k ≡ true → each (k + 1) p ≡ true
+unfolding each
+each-next k p a b = rw add-one (ap₂ _&&_ a b)
+
+pub each-fails : (n : ℕ) (p : ℕ → Bool) (k : ℕ) → k < n → p k ≡ false → each n p ≡ false
+each-fails n p k h e = is-false (each n p) (λ t. of-false e (each-at n p t k h))
+
+-- ---- lowest
+
+pub lowest-none : (n : ℕ) (p : ℕ → Bool) → some n p ≡ false → lowest n p ≡ n
+unfolding lowest
+lowest-none zero p e = refl
+lowest-none (suc n) p e =
+    ap₂ (λ b k. cond b 0 (suc k)) (is-false (p 0) (none-at (suc n) p e 0 (omega arith)))
+    (lowest-none n (λ i. p (suc i)) (none-i n (λ i. p (suc i)) (λ k h. none-at (suc n) p e (suc k) (omega arith))))
+
+pub lowest-found : (n : ℕ) (p : ℕ → Bool) (k : ℕ) → k < n → some k p ≡ false → p k ≡ true → lowest n p ≡ k
+unfolding lowest
+lowest-found zero p k h a b = absurd (not-suc-le-zero h)
+lowest-found (suc n) p zero h a b = ap (λ t. cond t 0 (suc (lowest n λ i. p (suc i)))) b
+lowest-found (suc n) p (suc k) h a b =
+    ap₂ (λ t m. cond t 0 (suc m)) (is-false (p 0) (none-at (suc k) p a 0 (omega arith)))
+    (lowest-found n (λ i. p (suc i)) k (le-of-suc-le-suc h) (none-i k (λ i. p (suc i)) (λ j l. none-at (suc k) p a (suc j) (omega arith))) b)

@@ -1,0 +1,4 @@
+pub mod Test
+pub mod Fold
+pub mod Sums
+pub mod Counting

@@ -1,0 +1,139 @@
+-- Subsets: `Sub u r` says that each digit of u is one of r. What is left of r without u, and the walk `(s - 1) & r`, which comes by
+-- every subset of r in falling order: a subset, smaller, and no subset lies between.
+-- Assumes nothing.
+use mathlib.Core.Path.{_≡_, sym, ap, _∙_, subst}
+use mathlib.Core.Logic.{⊎-elim}
+use mathlib.Core.Bool.{Bool, true, false, _&&_}
+use Prim.Native.Nat.{ℕ, zero, suc, _+_, _-_, _*_, _/_, _%_, _^_, _≤_, _<_, min}
+use native.Mathlib.Omega.{arith}
+use native.Mathlib.Nat.{eq-zero-or-pos}
+use lib.Dec.{T, eqb}
+use lib.Arith.{bin-ind}
+use lib.Bits.{bitAnd, bitOr, bitXor, and-step, and-zero-l, and-zero-r, and-le-l, and-le-r, and-comm, and-self, or-disjoint, xor-add-and}
+use Rattle.fold.specs.Test.{is-true, same-test, both, both-of}
+use Rattle.fold.specs.Counting.{le-or-lt}
+use Rattle.sets.specs.Mask.{mask, mask-and, mask-ext}
+
+-- ---- definitions
+
+abbrev pub Sub : ℕ → ℕ → Type 0
+Sub u r = bitAnd u r ≡ u
+
+abbrev pub subset : ℕ → ℕ → Bool
+subset u r = eqb (bitAnd u r) u
+
+-- the next smaller subset of r after s
+abbrev pub walk : ℕ → ℕ → ℕ
+walk s r = bitAnd (s - 1) r
+
+-- ---- subsets
+
+pub sub-le : (u r : ℕ) → Sub u r → u ≤ r
+sub-le u r h = omega (arith, and-le-r u r)
+
+pub sub-refl : (r : ℕ) → Sub r r
+sub-refl r = and-self r
+
+pub sub-zero : (r : ℕ) → Sub 0 r
+sub-zero r = and-zero-l r
+
+-- the lowest digit and the others
+sub-half : (u r : ℕ) → Sub u r → Sub (u / 2) (r / 2)
+sub-half u r h = omega (arith, and-step u r)
+
+sub-low : (u r : ℕ) → Sub u r → u % 2 ≤ r % 2
+sub-low u r h = omega (arith, and-step u r)
+
+sub-join : (u r : ℕ) → Sub (u / 2) (r / 2) → u % 2 ≤ r % 2 → Sub u r
+sub-join u r h l = omega (arith, and-step u r)
+
+-- what is in a and in r is a subset of r
+pub sub-and : (a r : ℕ) → Sub (bitAnd a r) r
+sub-and a =
+    bin-ind (λ (n : ℕ). (r : ℕ) → Sub (bitAnd n r) r) (λ r. sub-zero 0)
+    (λ n ih r.
+    let half : bitAnd n r / 2 ≡ bitAnd (n / 2) (r / 2) = omega (arith, and-step n r) in
+    sub-join (bitAnd n r) r (subst (λ (x : ℕ). Sub x (r / 2)) (sym half) (ih (r / 2))) (omega (arith, and-step n r)))
+    a
+
+pub sub-trans : (u s r : ℕ) → Sub u s → Sub s r → Sub u r
+sub-trans u =
+    bin-ind (λ (n : ℕ). (s r : ℕ) → Sub n s → Sub s r → Sub n r) (λ s r h k. sub-zero r)
+    (λ n ih s r h k. sub-join n r (ih (s / 2) (r / 2) (sub-half n s h) (sub-half s r k)) (omega (arith, sub-low n s h, sub-low s r k)))
+    u
+
+-- a test that passes only where another does has a subset of its mask
+pub sub-mask : (n : ℕ) (p q : ℕ → Bool) → ((i : ℕ) → i < n → T (p i) → T (q i)) → Sub (mask n p) (mask n q)
+sub-mask n p q h =
+    mask-and n p q
+    ∙ mask-ext n (λ i. p i && q i) p
+    (λ i l. same-test (p i && q i) (p i) (λ t. both-of (p i) (q i) t .0) (λ t. both (p i) (q i) t (h i l t)))
+
+-- ---- what is left when a subset goes: a subset too, with no digit of it, and the two make up the whole
+
+half-rest : (u r : ℕ) → Sub u r → (r - u) / 2 ≡ r / 2 - u / 2
+half-rest u r h = omega (arith, sub-low u r h, sub-le (u / 2) (r / 2) (sub-half u r h))
+
+pub sub-rest : (u r : ℕ) → Sub u r → Sub (r - u) r
+sub-rest u =
+    bin-ind (λ (n : ℕ). (r : ℕ) → Sub n r → Sub (r - n) r)
+    (λ r h. subst (λ (x : ℕ). Sub x r) (omega arith) (sub-refl r))
+    (λ n ih r h.
+    sub-join (r - n) r (subst (λ (x : ℕ). Sub x (r / 2)) (sym (half-rest n r h)) (ih (r / 2) (sub-half n r h)))
+    (omega (arith, sub-low n r h, sub-le (n / 2) (r / 2) (sub-half n r h))))
+    u
+
+pub rest-apart : (u r : ℕ) → Sub u r → bitAnd (r - u) u ≡ 0
+rest-apart u =
+    bin-ind (λ (n : ℕ). (r : ℕ) → Sub n r → bitAnd (r - n) n ≡ 0)
+    (λ r h. and-zero-r (r - 0))
+    (λ n ih r h.
+    let rest : bitAnd ((r - n) / 2) (n / 2) ≡ 0 = subst (λ (x : ℕ). bitAnd x (n / 2) ≡ 0) (sym (half-rest n r h)) (ih (r / 2) (sub-half n r h)) in
+    omega (arith, and-step (r - n) n, sub-low n r h, sub-le (n / 2) (r / 2) (sub-half n r h)))
+    u
+
+pub rest-or : (u r : ℕ) → Sub u r → bitOr (r - u) u ≡ r
+rest-or u r h = omega (arith, or-disjoint (r - u) u (rest-apart u r h), sub-le u r h)
+
+-- the code's `r ^ u`
+pub rest-xor : (u r : ℕ) → Sub u r → bitXor r u ≡ r - u
+rest-xor u r h = omega (arith, xor-add-and r u, and-comm r u)
+
+-- ---- the walk
+
+pub walk-sub : (s r : ℕ) → Sub (walk s r) r
+walk-sub s r = sub-and (s - 1) r
+
+pub walk-lt : (s r : ℕ) → 0 < s → walk s r < s
+walk-lt s r p = omega (arith, and-le-l (s - 1) r)
+
+-- no subset of r lies between the walk's next one and s
+pub walk-next : (s r u : ℕ) → Sub s r → Sub u r → u < s → u ≤ walk s r
+walk-next s =
+    bin-ind (λ (n : ℕ). (r u : ℕ) → Sub n r → Sub u r → u < n → u ≤ walk n r)
+    (λ r u hs hu l. absurd (omega arith))
+    (λ n ih r u hs hu l. step n r u (ih (r / 2) (u / 2) (sub-half n r hs) (sub-half u r hu)) hs hu l)
+    s
+  where
+    step : (n r u : ℕ) → (u / 2 < n / 2 → u / 2 ≤ walk (n / 2) (r / 2)) → Sub n r → Sub u r → u < n → u ≤ walk n r
+    step n r u ih hs hu l =
+        ⊎-elim
+        (λ (even : n % 2 ≡ 0).
+        let half : (n - 1) / 2 ≡ n / 2 - 1 = omega arith in
+        let rest : bitAnd ((n - 1) / 2) (r / 2) ≡ walk (n / 2) (r / 2) = ap (λ (x : ℕ). bitAnd x (r / 2)) half in
+        let low : u / 2 ≤ walk (n / 2) (r / 2) = ih (omega arith) in
+        omega (arith, and-step (n - 1) r, sub-low u r hu))
+        (λ (odd : 0 < n % 2).
+        let half : (n - 1) / 2 ≡ n / 2 = omega arith in
+        let rest : bitAnd ((n - 1) / 2) (r / 2) ≡ n / 2 = ap (λ (x : ℕ). bitAnd x (r / 2)) half ∙ sub-half n r hs in
+        omega (arith, and-step (n - 1) r))
+        (eq-zero-or-pos (n % 2))
+
+-- what holds of the subsets from s up, and of the next one down, holds of the subsets from the next one up
+pub walk-on : (P : ℕ → Type 0) (s r : ℕ) → Sub s r → ((q : ℕ) → Sub q r → s ≤ q → P q) → P (walk s r) → (q : ℕ) → Sub q r → walk s r ≤ q → P q
+walk-on P s r hs all here q hq l =
+    ⊎-elim (λ (m : s ≤ q). all q hq m)
+    (λ (m : q < s).
+    let e : walk s r ≡ q = omega (arith, walk-next s r q hs hq m) in
+    subst P e here)
+    (le-or-lt s q)

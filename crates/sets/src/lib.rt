@@ -1,0 +1,1 @@
+// Sets of positions as numbers: definitions and laws, in specs/. No code.
