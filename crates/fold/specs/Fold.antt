@@ -4,8 +4,8 @@
 use mathlib.Core.Path.{_≡_, refl, sym, ap, ap₂, _∙_, subst}
 use mathlib.Core.Bool.{Bool, true, false, cond, _&&_, _||_, and-false, or-true}
 use mathlib.Core.Logic.{⊎-elim}
-use Prim.Native.Nat.{ℕ, zero, suc, _+_, _≤_, _<_}
-use native.Mathlib.Nat.{le-of-suc-le-suc, not-suc-le-zero, eq-or-lt-of-le}
+use Prim.Native.Nat.{ℕ, zero, suc, _+_, _≤_, _<_, zero-le, suc-le-suc}
+use native.Mathlib.Nat.{le-of-suc-le-suc, not-suc-le-zero, eq-or-lt-of-le, le-refl}
 use native.Mathlib.Numerals.{add-one}
 use native.Mathlib.Omega.{arith}
 use lib.Dec.{T}
@@ -141,3 +141,34 @@ lowest-found (suc n) p zero h a b = ap (λ t. cond t 0 (suc (lowest n λ i. p (s
 lowest-found (suc n) p (suc k) h a b =
     ap₂ (λ t m. cond t 0 (suc m)) (is-false (p 0) (none-at (suc k) p a 0 (omega arith)))
     (lowest-found n (λ i. p (suc i)) k (le-of-suc-le-suc h) (none-i k (λ i. p (suc i)) (λ j l. none-at (suc k) p a (suc j) (omega arith))) b)
+
+-- what it says of the index that it gives
+pub lowest-le : (n : ℕ) (p : ℕ → Bool) → lowest n p ≤ n
+unfolding lowest
+lowest-le zero p = le-refl 0
+lowest-le (suc n) p = go (p 0) (lowest-le n λ i. p (suc i))
+  where
+    go : (b : Bool) → (lowest n λ i. p (suc i)) ≤ n → cond b 0 (suc (lowest n λ i. p (suc i))) ≤ suc n
+    go true h = zero-le
+    go false h = suc-le-suc h
+
+pub lowest-passes : (n : ℕ) (p : ℕ → Bool) → lowest n p < n → T (p (lowest n p))
+unfolding lowest
+lowest-passes zero p h = absurd (not-suc-le-zero h)
+lowest-passes (suc n) p h = go (p 0) refl h (lowest-passes n λ i. p (suc i))
+  where
+    go : (b : Bool) → p 0 ≡ b → cond b 0 (suc (lowest n λ i. p (suc i))) < suc n
+        → ((lowest n λ i. p (suc i)) < n → T (p (suc (lowest n λ i. p (suc i))))) → T (p (cond b 0 (suc (lowest n λ i. p (suc i)))))
+    go true e l later = of-true e
+    go false e l later = later (le-of-suc-le-suc l)
+
+pub lowest-before : (n : ℕ) (p : ℕ → Bool) (k : ℕ) → k < lowest n p → T (p k) → ⊥
+unfolding lowest
+lowest-before zero p k h t = not-suc-le-zero h
+lowest-before (suc n) p k h t = go (p 0) refl k h t (lowest-before n λ i. p (suc i))
+  where
+    go : (b : Bool) → p 0 ≡ b → (k : ℕ) → k < cond b 0 (suc (lowest n λ i. p (suc i))) → T (p k)
+        → ((k : ℕ) → k < (lowest n λ i. p (suc i)) → T (p (suc k)) → ⊥) → ⊥
+    go true e k l t later = not-suc-le-zero l
+    go false e zero l t later = of-false e t
+    go false e (suc k) l t later = later k (le-of-suc-le-suc l) t

@@ -1,0 +1,167 @@
+-- The published model (source 000, section 3.1 and equation (12), as document 01 reads them): what a row of slots costs, which rows
+-- are allowed, which of two rows of equal cost comes first, and what the best plan is. This file is what a reader must believe.
+-- It speaks of plain data, numbers and lists, so that records of any size have one model. Paper.antt joins it to the equations.
+-- Position k of the papers is the index k - 1 here; slots count from 1. A row is the list of the positions' slots.
+-- Assumes nothing.
+use mathlib.Core.Path.{_≡_}
+use mathlib.Core.Bool.{Bool, cond, _&&_}
+use mathlib.Core.List.{List}
+use Prim.Native.Nat.{ℕ, suc, _+_, _-_, _*_, _≤_}
+use lib.Dec.{T, ltb, leb, eqb}
+use lib.ListN.{length, getD}
+use Rattle.fold.specs.Fold.{sum, count, some, each}
+use Rattle.sets.specs.Mask.{mask}
+
+-- ---- a day as plain data
+
+pub record Yard : Type 0 where
+  -- n trains, G tracks, T slots; the weights w1 of a revisit and w2 of a split move
+  pub trains : ℕ
+  pub tracks : ℕ
+  pub slots : ℕ
+  pub revisit : ℕ
+  pub split : ℕ
+  -- by position: train numbers, first slots e, last slots l
+  pub numbers : List ℕ
+  pub first : List ℕ
+  pub last : List ℕ
+  -- A, row after row, each `width` long
+  pub width : ℕ
+  pub boxes : List ℕ
+
+-- the entry (i, j) of a table that is stored row after row
+abbrev pub cell : ℕ → List ℕ → ℕ → ℕ → ℕ
+cell width table i j = getD table (i * width + j) 0
+
+-- A(i, j): the boxes that train i receives from train j
+abbrev pub received : Yard → ℕ → ℕ → ℕ
+received y = cell (y .width) (y .boxes)
+
+-- e, l and the slot that a row gives to position i
+abbrev pub firstSlot : Yard → ℕ → ℕ
+firstSlot y i = getD (y .first) i 0
+
+abbrev pub lastSlot : Yard → ℕ → ℕ
+lastSlot y i = getD (y .last) i 0
+
+abbrev pub slotOf : List ℕ → ℕ → ℕ
+slotOf row i = getD row i 0
+
+-- ---- the two counts, of n trains with boxes a: equation (1)'s sums at the least y and z that (4) and (5) allow
+
+-- j is a supplier of i, one of L_i, and has a later slot
+unfoldable pub lateSupplier : (ℕ → ℕ → ℕ) → List ℕ → ℕ → ℕ → Bool
+lateSupplier a row i j = ltb 0 (a i j) && ltb (slotOf row i) (slotOf row j)
+
+-- y_i: train i revisits where at least one supplier has a later slot, (4)
+unfoldable pub revisiting : ℕ → (ℕ → ℕ → ℕ) → List ℕ → ℕ → Bool
+revisiting n a row i = some n (lateSupplier a row i)
+
+unfoldable pub revisits : ℕ → (ℕ → ℕ → ℕ) → List ℕ → ℕ
+revisits n a row = count n (revisiting n a row)
+
+-- z_ij A(i, j): the boxes of i from j, where their slots differ, (5)
+unfoldable pub splitBoxes : (ℕ → ℕ → ℕ) → List ℕ → ℕ → ℕ → ℕ
+splitBoxes a row i j = cond (eqb (slotOf row i) (slotOf row j)) 0 (a i j)
+
+-- the split moves of the boxes that train i receives; of all boxes
+unfoldable pub splitsTo : ℕ → (ℕ → ℕ → ℕ) → List ℕ → ℕ → ℕ
+splitsTo n a row i = sum n (splitBoxes a row i)
+
+unfoldable pub splits : ℕ → (ℕ → ℕ → ℕ) → List ℕ → ℕ
+splits n a row = sum n (splitsTo n a row)
+
+-- ---- the cost, equation (1)
+
+unfoldable pub weighed : ℕ → ℕ → ℕ → ℕ → ℕ
+weighed w1 w2 revisits splits = w1 * revisits + w2 * splits
+
+unfoldable pub cost : Yard → List ℕ → ℕ
+unfolding weighed
+cost y row = weighed (y .revisit) (y .split) (revisits (y .trains) (received y) row) (splits (y .trains) (received y) row)
+
+-- 01: outcomes are revisits, splits, cost
+pub record Outcome : Type 0 where
+  pub revisits : ℕ
+  pub splits : ℕ
+  pub cost : ℕ
+
+abbrev pub outcome : Yard → List ℕ → Outcome
+outcome y row = record {
+  revisits = revisits (y .trains) (received y) row;
+  splits = splits (y .trains) (received y) row;
+  cost = cost y row;
+}
+
+-- ---- allowed rows
+
+-- position i has one of the slots 1 to T, (2)
+unfoldable pub inSlots : ℕ → List ℕ → ℕ → Bool
+inSlots slots row i = leb 1 (slotOf row i) && leb (slotOf row i) slots
+
+-- e ≤ slot ≤ l at position i, (12)
+unfoldable pub inWindow : List ℕ → List ℕ → List ℕ → ℕ → Bool
+inWindow first last row i = leb (getD first i 0) (slotOf row i) && leb (slotOf row i) (getD last i 0)
+
+-- the number of trains in slot t, the left side of (3)
+unfoldable pub load : ℕ → List ℕ → ℕ → ℕ
+load n row t = count n λ i. eqb (slotOf row i) t
+
+-- no more trains than tracks in slot t, (3)
+unfoldable pub roomy : ℕ → ℕ → List ℕ → ℕ → Bool
+roomy n tracks row t = leb (load n row t) tracks
+
+-- a slot for each position, (2); each in its window, (12); and room in each slot, (3)
+unfoldable pub allowed : Yard → List ℕ → Bool
+allowed y row =
+    eqb (length row) (y .trains)
+    && each (y .trains) (inSlots (y .slots) row)
+    && each (y .trains) (inWindow (y .first) (y .last) row)
+    && each (y .slots) λ t. roomy (y .trains) (y .tracks) row (suc t)
+
+-- ---- the order of rows of equal cost
+
+-- the set number of slot t (01): 2 ^ (k - 1) for each train position k in it
+unfoldable pub slotMask : ℕ → List ℕ → ℕ → ℕ
+slotMask n row t = mask n λ i. eqb (slotOf row i) t
+
+-- at the lowest index below k where f and g differ, f is the smaller
+unfoldable pub lower : ℕ → (ℕ → ℕ) → (ℕ → ℕ) → Bool
+lower k f g = some k λ t. ltb (f t) (g t) && each t λ u. eqb (f u) (g u)
+
+-- r comes before s (01): it has the larger set number at the lowest slot where their set numbers differ
+unfoldable pub precedes : Yard → List ℕ → List ℕ → Bool
+precedes y r s = lower (y .slots) (λ t. slotMask (y .trains) s (suc t)) (λ t. slotMask (y .trains) r (suc t))
+
+-- the best plan: allowed, no allowed row is cheaper, and none of equal cost comes before it
+pub record Best (y : Yard) (row : List ℕ) : Type 0 where
+  pub isAllowed : T (allowed y row)
+  pub least : (other : List ℕ) → T (allowed y other) → cost y row ≤ cost y other
+  pub first : (other : List ℕ) → T (allowed y other) → cost y other ≡ cost y row → T (precedes y other row) → ⊥
+
+-- no row is allowed
+abbrev pub NoRow : Yard → Type 0
+NoRow y = (row : List ℕ) → T (allowed y row) → ⊥
+
+-- ---- overbooked intervals (01: stretches)
+
+-- the number of trains bound inside a..b: a ≤ e and l ≤ b
+unfoldable pub bound : ℕ → List ℕ → List ℕ → ℕ → ℕ → ℕ
+bound n first last a b = count n λ i. leb a (getD first i 0) && leb (getD last i 0) b
+
+abbrev pub boundInside : Yard → ℕ → ℕ → ℕ
+boundInside y = bound (y .trains) (y .first) (y .last)
+
+-- more than G × (b - a + 1) trains are bound inside a..b
+unfoldable pub exceeds : Yard → ℕ → ℕ → Bool
+exceeds y a b = ltb (y .tracks * (b - a + 1)) (boundInside y a b)
+
+-- a..b is an overbooked interval of the day: 1 ≤ a ≤ b ≤ T, and it exceeds the tracks
+unfoldable pub overbooked : Yard → ℕ → ℕ → Bool
+overbooked y a b = leb 1 a && leb a b && leb b (y .slots) && exceeds y a b
+
+-- the interval that refusal 9 names: of all overbooked ones the smallest first slot, and for it the smallest last slot
+pub record FirstOverbooked (y : Yard) (a b : ℕ) : Type 0 where
+  pub isOver : T (overbooked y a b)
+  pub smallestFirst : (a′ b′ : ℕ) → T (overbooked y a′ b′) → a ≤ a′
+  pub smallestLast : (b′ : ℕ) → T (overbooked y a b′) → b ≤ b′

@@ -1,0 +1,97 @@
+-- Allowed rows: the test as a record of statements, and the complete list of all rows of n slots in 1..m.
+-- Assumes nothing.
+use mathlib.Core.Path.{_≡_, refl, sym, ap, _∙_, subst}
+use mathlib.Core.Bool.{Bool, true, false, _&&_}
+use mathlib.Core.List.{List, [], _∷_, _++_, map, List·Memᴰ, List·Memᴰ·head, Memᴰ·append-left, Memᴰ·append-right, Memᴰ·map}
+use mathlib.Core.Logic.{⊎-elim}
+use Prim.Native.Nat.{ℕ, zero, suc, _+_, _*_, _≤_, _<_, zero-le, suc-le-suc}
+use native.Mathlib.Nat.{eq-or-lt-of-le, le-of-suc-le-suc}
+use native.Mathlib.Omega.{arith}
+use lib.Dec.{T, ltb, leb, eqb, leb→le, le→leb, eqb→eq}
+use lib.ListN.{length, getD}
+use borrow.Author.Tests.{eq-eqb}
+use Rattle.fold.specs.Test.{of-true, both, both-of}
+use Rattle.fold.specs.Fold.{each, each-at, each-i}
+use Rattle.model.specs.Model.{Yard, firstSlot, lastSlot, slotOf, inSlots, inWindow, load, roomy, allowed}
+
+-- ---- what the test of an allowed row says
+
+pub record Allowed (y : Yard) (row : List ℕ) : Type 0 where
+  pub long : length row ≡ y .trains
+  pub slotted : (i : ℕ) → i < y .trains → (1 ≤ slotOf row i) × (slotOf row i ≤ y .slots)
+  pub windowed : (i : ℕ) → i < y .trains → (firstSlot y i ≤ slotOf row i) × (slotOf row i ≤ lastSlot y i)
+  pub room : (t : ℕ) → t < y .slots → load (y .trains) row (suc t) ≤ y .tracks
+
+pub both-le : (a b c d : ℕ) → T (leb a b && leb c d) → (a ≤ b) × (c ≤ d)
+both-le a b c d t = let p = both-of (leb a b) (leb c d) t in (leb→le a b (p .0), leb→le c d (p .1))
+
+pub le-both : (a b c d : ℕ) → (a ≤ b) × (c ≤ d) → T (leb a b && leb c d)
+le-both a b c d p = both (leb a b) (leb c d) (le→leb a b (p .0)) (le→leb c d (p .1))
+
+module _ (y : Yard) (row : List ℕ) where
+  long : Bool
+  long = eqb (length row) (y .trains)
+
+  slotted : Bool
+  slotted = each (y .trains) (inSlots (y .slots) row)
+
+  windowed : Bool
+  windowed = each (y .trains) (inWindow (y .first) (y .last) row)
+
+  spacious : Bool
+  spacious = each (y .slots) λ t. roomy (y .trains) (y .tracks) row (suc t)
+
+  pub allowed-is : T (allowed y row) → Allowed y row
+  unfolding allowed long slotted windowed spacious inSlots inWindow roomy
+  allowed-is t =
+      let p = both-of (long && slotted && windowed) spacious t in
+      let q = both-of (long && slotted) windowed (p .0) in
+      let s = both-of long slotted (q .0) in
+      record {
+        long = eqb→eq (length row) (y .trains) (s .0);
+        slotted = λ i h. both-le 1 (slotOf row i) (slotOf row i) (y .slots) (each-at (y .trains) (inSlots (y .slots) row) (s .1) i h);
+        windowed = λ i h. both-le (firstSlot y i) (slotOf row i) (slotOf row i) (lastSlot y i) (each-at (y .trains) (inWindow (y .first) (y .last) row) (q .1) i h);
+        room = λ t h. leb→le (load (y .trains) row (suc t)) (y .tracks) (each-at (y .slots) (λ t. roomy (y .trains) (y .tracks) row (suc t)) (p .1) t h);
+      }
+
+  pub is-allowed : Allowed y row → T (allowed y row)
+  unfolding allowed long slotted windowed spacious inSlots inWindow roomy
+  is-allowed a =
+      both (long && slotted && windowed) spacious
+      (both (long && slotted) windowed
+      (both long slotted (of-true (eq-eqb (length row) (y .trains) (a .long)))
+      (each-i (y .trains) (inSlots (y .slots) row) (λ i h. le-both 1 (slotOf row i) (slotOf row i) (y .slots) (a .slotted i h))))
+      (each-i (y .trains) (inWindow (y .first) (y .last) row) (λ i h. le-both (firstSlot y i) (slotOf row i) (slotOf row i) (lastSlot y i) (a .windowed i h))))
+      (each-i (y .slots) (λ t. roomy (y .trains) (y .tracks) row (suc t)) (λ t h. le→leb (load (y .trains) row (suc t)) (y .tracks) (a .room t h)))
+
+-- ---- every row of n slots in 1..m, and that none is missing
+
+spread : ℕ → List (List ℕ) → List (List ℕ)
+spread zero rows = []
+spread (suc t) rows = map (λ r. suc t ∷ r) rows ++ spread t rows
+
+unfoldable pub allRows : ℕ → ℕ → List (List ℕ)
+unfolding spread
+allRows zero m = [] ∷ []
+allRows (suc n) m = spread m (allRows n m)
+
+in-spread : (m x : ℕ) (r : List ℕ) (rows : List (List ℕ)) → 1 ≤ x → x ≤ m → List·Memᴰ r rows → List·Memᴰ (x ∷ r) (spread m rows)
+unfolding spread
+in-spread zero x r rows l h q = absurd (omega arith)
+in-spread (suc m) x r rows l h q =
+    ⊎-elim
+    (λ e. subst (λ y. List·Memᴰ (y ∷ r) (spread (suc m) rows)) (sym e) (Memᴰ·append-left (spread m rows) (Memᴰ·map (λ r. suc m ∷ r) q)))
+    (λ k. Memᴰ·append-right (map (λ r. suc m ∷ r) rows) (in-spread m x r rows l (le-of-suc-le-suc k) q))
+    (eq-or-lt-of-le h)
+
+pub in-all-rows : (n m : ℕ) (r : List ℕ) → length r ≡ n → ((i : ℕ) → i < n → (1 ≤ slotOf r i) × (slotOf r i ≤ m)) → List·Memᴰ r (allRows n m)
+unfolding allRows
+in-all-rows zero m [] e w = List·Memᴰ·head refl
+in-all-rows zero m (x ∷ r) e w = absurd (omega arith)
+in-all-rows (suc n) m [] e w = absurd (omega arith)
+in-all-rows (suc n) m (x ∷ r) e w =
+    let h = w 0 (suc-le-suc zero-le) in
+    in-spread m x r (allRows n m) (h .0) (h .1) (in-all-rows n m r (omega arith) (λ i h. w (suc i) (suc-le-suc h)))
+
+pub allowed-listed : (y : Yard) (row : List ℕ) → T (allowed y row) → List·Memᴰ row (allRows (y .trains) (y .slots))
+allowed-listed y row t = let a = allowed-is y row t in in-all-rows (y .trains) (y .slots) row (a .long) (a .slotted)

@@ -1,0 +1,1 @@
+// The published model, over plain data: definitions and laws, in specs/. No code.
