@@ -5,7 +5,7 @@ use mathlib.Core.Path.{_≡_, refl, sym, ap, ap₂, _∙_, subst}
 use mathlib.Core.Bool.{Bool, true, false, cond, _&&_, _||_, and-false, or-true}
 use mathlib.Core.Logic.{⊎-elim}
 use Prim.Native.Nat.{ℕ, zero, suc, _+_, _≤_, _<_, zero-le, suc-le-suc}
-use native.Mathlib.Nat.{le-of-suc-le-suc, not-suc-le-zero, eq-or-lt-of-le, le-refl}
+use native.Mathlib.Nat.{le-of-suc-le-suc, not-suc-le-zero, eq-or-lt-of-le, le-refl, le-antisymm}
 use native.Mathlib.Numerals.{add-one}
 use native.Mathlib.Omega.{arith}
 use lib.Dec.{T}
@@ -66,6 +66,11 @@ pub count-next : (k : ℕ) (p : ℕ → Bool) → count (k + 1) p ≡ count k p 
 unfolding count
 count-next k p = sum-next k λ i. bit (p i)
 
+-- ---- where a loop ends: at the bound
+
+pub at-end : {X : Type 0} (f : ℕ → X) (i n : ℕ) → i ≤ n → n ≤ i → f i ≡ f n
+at-end f i n a b = ap f (le-antisymm a b)
+
 -- ---- some
 
 pub some-at : (n : ℕ) (p : ℕ → Bool) (k : ℕ) → k < n → T (p k) → T (some n p)
@@ -89,6 +94,9 @@ no-some p = refl
 pub none-next : (k : ℕ) (p : ℕ → Bool) → some k p ≡ false → p k ≡ false → some (k + 1) p ≡ false
 unfolding some
 none-next k p a b = rw add-one (ap₂ _||_ a b)
+
+pub none-end : (i n : ℕ) (p : ℕ → Bool) → i ≤ n → n ≤ i → some i p ≡ false → some n p ≡ false
+none-end i n p a b e = sym (at-end (λ k. some k p) i n a b) ∙ e
 
 pub some-found : (n : ℕ) (p : ℕ → Bool) (k : ℕ) → k < n → p k ≡ true → some n p ≡ true
 some-found n p k h e = is-true (some n p) (some-at n p k h (of-true e))
@@ -121,6 +129,9 @@ each-none p = refl
 pub each-next : (k : ℕ) (p : ℕ → Bool) → each k p ≡ true → p k ≡ true → each (k + 1) p ≡ true
 unfolding each
 each-next k p a b = rw add-one (ap₂ _&&_ a b)
+
+pub each-end : (i n : ℕ) (p : ℕ → Bool) → i ≤ n → n ≤ i → each i p ≡ true → each n p ≡ true
+each-end i n p a b e = sym (at-end (λ k. each k p) i n a b) ∙ e
 
 pub each-fails : (n : ℕ) (p : ℕ → Bool) (k : ℕ) → k < n → p k ≡ false → each n p ≡ false
 each-fails n p k h e = is-false (each n p) (λ t. of-false e (each-at n p t k h))

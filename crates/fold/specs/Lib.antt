@@ -2,3 +2,4 @@ pub mod Test
 pub mod Fold
 pub mod Sums
 pub mod Counting
+pub mod Listed

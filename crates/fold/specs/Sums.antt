@@ -10,7 +10,8 @@ use native.Mathlib.Omega.{arith}
 use lib.Dec.{T, eqb}
 use borrow.Author.Tests.{eq-eqb, ne-eqb}
 use Rattle.fold.specs.Test.{same-test, both, both-of}
-use Rattle.fold.specs.Fold.{bit, sum, count, some, each, each-at, each-i}
+use Rattle.fold.specs.Counting.{le-or-lt}
+use Rattle.fold.specs.Fold.{bit, sum, count, some, each, each-at, each-i, below-suc}
 
 -- ---- terms that agree below the bound
 
@@ -65,6 +66,13 @@ unfolding sum
 sum-bound zero m f h = zero-le
 sum-bound (suc n) m f h = let a = sum-bound n m f (λ i l. h i (omega arith)) in let b = h n (omega arith) in omega (arith, suc-mul n m)
 
+-- a term is at most the sum
+pub term-le-sum : (m : ℕ) (f : ℕ → ℕ) (t : ℕ) → t < m → f t ≤ sum m f
+unfolding sum
+term-le-sum zero f t h = absurd (omega arith)
+term-le-sum (suc m) f t h =
+    below-suc (λ t. f t ≤ sum m f + f m) m (λ t l. let r = term-le-sum m f t l in omega arith) (omega arith) t h
+
 -- of the numbers 1 to m just one is s
 pub sum-only : (m s x : ℕ) → 1 ≤ s → s ≤ m → sum m (λ t. cond (eqb s (suc t)) x 0) ≡ x
 unfolding sum
@@ -76,6 +84,28 @@ sum-only (suc m) s x a b =
     ∙ zero-add x)
     (λ l. ap₂ (λ y z. y + cond z x 0) (sum-only m s x a (le-of-suc-le-suc l)) (ne-eqb s (suc m) (λ q. omega arith)) ∙ add-zero x)
     (eq-or-lt-of-le b)
+
+-- terms of 0 and 1 with the sum 1 are 1 at just one place
+pub sum-one : (m : ℕ) (f : ℕ → ℕ) → ((t : ℕ) → t < m → f t ≤ 1) → sum m f ≡ 1
+    → (s : ℕ) × (1 ≤ s) × (s ≤ m) × ((t : ℕ) → t < m → f t ≡ bit (eqb s (suc t)))
+unfolding sum
+sum-one zero f b e = absurd (omega arith)
+sum-one (suc m) f b e =
+    ⊎-elim
+    (λ (z : f m ≤ 0).
+    let (s, p, q, g) = sum-one m f (λ t h. b t (omega arith)) (omega arith) in
+    let here : f m ≡ bit (eqb s (suc m)) = omega (arith, ap bit (ne-eqb s (suc m) (λ e. omega arith))) in
+    (s, p, omega arith, below-suc (λ t. f t ≡ bit (eqb s (suc t))) m g here))
+    (λ (z : 0 < f m).
+    let one = b m (omega arith) in
+    let here : f m ≡ bit (eqb (suc m) (suc m)) = omega (arith, ap bit (eq-eqb (suc m) (suc m) refl)) in (
+      suc m,
+      omega arith,
+      omega arith,
+      below-suc (λ t. f t ≡ bit (eqb (suc m) (suc t))) m
+          (λ t h. omega (arith, term-le-sum m f t h, ap bit (ne-eqb (suc m) (suc t) (λ e. omega arith)))) here,
+    ))
+    (le-or-lt (f m) 0)
 
 -- ---- from the first index
 

@@ -3,3 +3,6 @@ pub mod Rows
 pub mod Order
 pub mod BestOf
 pub mod Overbooked
+pub mod Program
+pub mod Bridge
+pub mod Cells

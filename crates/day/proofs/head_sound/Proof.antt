@@ -1,0 +1,11 @@
+use mathlib.Core.Path.{refl}
+use Rattle.day.specs.Sound.{headSound}
+use Rattle.day.proofs.head_sound.Statement.{statement}
+use Rattle.day.proofs.head_sound.Tie as tie
+
+returns : tie.Need-returns
+unfolding headSound
+returns c = refl
+
+pub head-sound-spec : {M : Type 1} → statement M
+head-sound-spec = tie.close (tie.spec returns)

@@ -1,0 +1,27 @@
+use mathlib.Core.Path.{refl}
+use borrow.Author.Tests.{eq-eqb, ne-eqb}
+use Rattle.day.specs.Sound.{numberBefore}
+use borrow.Author.Needs.{needs}
+use Rattle.day.proofs.number_before.Statement.{statement}
+use Rattle.day.proofs.number_before.Tie as tie
+
+returns : tie.Need-returns
+unfolding numberBefore
+returns c = rw (eq-eqb (c .before .args .i) 0 (c .if1 .taken))
+
+sub-k : tie.Need-sub-k
+sub-k c = search needs
+
+mul-result : tie.Need-mul-result
+mul-result c = search needs
+
+shared-slice-read-result : tie.Need-shared-slice-read-result
+shared-slice-read-result c = search needs
+
+returns-2 : tie.Need-returns-2
+unfolding numberBefore
+returns-2 c = rw (ne-eqb (c .before .before .args .i) 0 (c .before .if1 .left))
+
+pub number-before-spec : {M : Type 1} → statement M
+number-before-spec =
+    tie.close (tie.spec returns sub-k mul-result shared-slice-read-result returns-2)

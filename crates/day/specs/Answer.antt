@@ -1,0 +1,58 @@
+-- What a call answers, in the numbers of document 01: what it gives, or the number of a refusal with the values that it carries.
+-- Every enum of an answer is mapped to this, and the promises speak of it.
+-- Assumes nothing.
+use mathlib.Core.Bool.{Bool, cond}
+use mathlib.Core.List.{List, [], _∷_}
+use Prim.Native.Nat.{ℕ}
+use Rattle.day.specs.declared.Refusal.{Refusal}
+use Rattle.day.specs.declared.Refusal.the-variants.{NamesLine, RowForm, OutOfLimits, NumberOrder, WindowOrder, UnknownTrain, PairOrder, Unsound, NoAllowedRow, TooShort, RowLength, OutsideWindow, SlotOverfull}
+
+pub data Answer (X : Type 0) : Type 0 where
+  gives : X → Answer X
+  refuses : ℕ → List ℕ → Answer X
+
+-- the number of a refusal in 01's table
+abbrev pub number : Refusal → ℕ
+number (NamesLine line) = 1
+number (RowForm line) = 2
+number (OutOfLimits line) = 3
+number (NumberOrder line) = 4
+number (WindowOrder line) = 5
+number (UnknownTrain line) = 6
+number (PairOrder line) = 7
+number Unsound = 8
+number (NoAllowedRow first last trains) = 9
+number TooShort = 10
+number RowLength = 11
+number (OutsideWindow position) = 12
+number (SlotOverfull slot) = 13
+
+-- what it carries
+abbrev pub carried : Refusal → List ℕ
+carried (NamesLine line) = line ∷ []
+carried (RowForm line) = line ∷ []
+carried (OutOfLimits line) = line ∷ []
+carried (NumberOrder line) = line ∷ []
+carried (WindowOrder line) = line ∷ []
+carried (UnknownTrain line) = line ∷ []
+carried (PairOrder line) = line ∷ []
+carried Unsound = 0 ∷ []
+carried (NoAllowedRow first last trains) = first ∷ last ∷ trains ∷ []
+carried TooShort = 0 ∷ []
+carried RowLength = 0 ∷ []
+carried (OutsideWindow position) = position ∷ []
+carried (SlotOverfull slot) = slot ∷ []
+
+abbrev pub refusal : {X : Type 0} → Refusal → Answer X
+refusal r = refuses (number r) (carried r)
+
+-- ---- checks, in the order in which a call makes them
+
+-- what must hold, and the refusal that is given where it does not
+pub data Check : Type 0 where
+  must : Bool → ℕ → List ℕ → Check
+
+-- the refusal of the first check that fails, else the answer
+abbrev pub checked : {X : Type 0} → List Check → Answer X → Answer X
+checked [] answer = answer
+checked (must holds k carries ∷ checks) answer = cond holds (checked checks answer) (refuses k carries)

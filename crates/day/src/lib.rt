@@ -1,0 +1,218 @@
+// The day record, its soundness, and the refusals of document 01.
+//
+// Proved: `is_sound` is the definition `sound` of specs/Sound.antt for every record, sound or not. A record's parts are tested by
+// functions over slices, a width and limits, so that records of other sizes use them too. Assumes nothing.
+ghost use mathlib.Core.Path.{_≡_};
+ghost use Prim.Native.Nat.{_≤_, _<_, _*_};
+ghost use lib.ListN.{length};
+ghost use Rattle.fold.specs.Fold.{each};
+ghost use Rattle.model.specs.Model.{cell};
+ghost use Rattle.model.specs.Cells.{InTable};
+ghost use Rattle.day.specs.Sound.{dayLimits, yard, headSound, numberBefore, trainSound, unused, positionSound, pairSound, receiverSound, sound};
+
+// A day. Positions are counted from 0; A(i, j), the boxes that train i receives from train j, stands at i * 12 + j of `boxes`.
+// Unused positions hold 0.
+pub struct Day {
+    pub trains: usize,
+    pub tracks: u32,
+    pub slots: u8,
+    pub revisit: u32,
+    pub split: u32,
+    pub numbers: [u32; 12],
+    pub first: [u8; 12],
+    pub last: [u8; 12],
+    pub boxes: [u8; 144],
+}
+
+// The greatest value of each field of a day file.
+pub struct Limits {
+    pub trains: usize,
+    pub tracks: u32,
+    pub slots: u8,
+    pub weight: u32,
+    pub number: u32,
+    pub boxes: u8,
+}
+
+// The refusals 1 to 13 of document 01, in its order, with what each carries: a line of the text, counted from 1; the first and the
+// last slot of an interval and the trains bound inside; a position or a slot, counted from 1.
+pub enum Refusal {
+    NamesLine(usize),
+    RowForm(usize),
+    OutOfLimits(usize),
+    NumberOrder(usize),
+    WindowOrder(usize),
+    UnknownTrain(usize),
+    PairOrder(usize),
+    Unsound,
+    NoAllowedRow { first: u8, last: u8, trains: usize },
+    TooShort,
+    RowLength,
+    OutsideWindow(usize),
+    SlotOverfull(u8),
+}
+
+// The limits of document 01.
+pub fn day_limits() -> Limits
+    ensures { λ r. ⌜ r ≡ dayLimits ⌝ }
+{
+    Limits {
+        trains: 12,
+        tracks: 12,
+        slots: 8,
+        weight: 65535,
+        number: 255,
+        boxes: 255,
+    }
+}
+
+fn head_sound(l: Limits, trains: usize, tracks: u32, slots: u8, revisit: u32, split: u32) -> bool
+    ensures { λ r. ⌜ r ≡ headSound l trains tracks slots revisit split ⌝ }
+{
+    (1 <= trains)
+        & (trains <= l.trains)
+        & (1 <= tracks)
+        & (tracks <= l.tracks)
+        & (1 <= slots)
+        & (slots <= l.slots)
+        & (revisit <= l.weight)
+        & (split <= l.weight)
+}
+
+// The train number before position i, 0 before the first.
+fn number_before(numbers: &[u32], i: usize) -> u32
+    requires { ⌜ i < length (now numbers) ⌝ }
+    ensures { λ r. ⌜ r ≡ numberBefore (now (numbers .entry)) i ⌝ }
+{
+    if i == 0 {
+        return 0;
+    }
+    let k = i - 1;
+    numbers[k]
+}
+
+// Position i of a train: its number rises and keeps its limit, its window lies in the slots.
+fn train_sound(l: Limits, slots: u8, numbers: &[u32], first: &[u8], last: &[u8], i: usize) -> bool
+    requires { ⌜ (i < length (now numbers)) × (i < length (now first)) × (i < length (now last)) ⌝ }
+    ensures { λ r. ⌜ r ≡ trainSound l slots (now (numbers .entry)) (now (first .entry)) (now (last .entry)) i ⌝ }
+{
+    (number_before(numbers, i) < numbers[i])
+        & (numbers[i] <= l.number)
+        & (1 <= first[i])
+        & (first[i] <= last[i])
+        & (last[i] <= slots)
+}
+
+fn is_unused(numbers: &[u32], first: &[u8], last: &[u8], i: usize) -> bool
+    requires { ⌜ (i < length (now numbers)) × (i < length (now first)) × (i < length (now last)) ⌝ }
+    ensures { λ r. ⌜ r ≡ unused (now (numbers .entry)) (now (first .entry)) (now (last .entry)) i ⌝ }
+{
+    (numbers[i] == 0) & (first[i] == 0) & (last[i] == 0)
+}
+
+fn position_sound(
+    l: Limits,
+    n: usize,
+    slots: u8,
+    numbers: &[u32],
+    first: &[u8],
+    last: &[u8],
+    i: usize,
+) -> bool
+    requires { ⌜ (i < length (now numbers)) × (i < length (now first)) × (i < length (now last)) ⌝ }
+    ensures { λ r. ⌜ r ≡ positionSound l n slots (now (numbers .entry)) (now (first .entry)) (now (last .entry)) i ⌝ }
+{
+    if i < n {
+        train_sound(l, slots, numbers, first, last, i)
+    } else {
+        is_unused(numbers, first, last, i)
+    }
+}
+
+fn positions_sound(
+    l: Limits,
+    n: usize,
+    slots: u8,
+    numbers: &[u32],
+    first: &[u8],
+    last: &[u8],
+) -> bool
+    requires { ⌜ (l .trains ≤ length (now numbers)) × (l .trains ≤ length (now first)) × (l .trains ≤ length (now last)) ⌝ }
+    ensures { λ r. ⌜ r ≡ each (l .trains) (positionSound l n slots (now (numbers .entry)) (now (first .entry)) (now (last .entry))) ⌝ }
+{
+    let all = l.trains;
+    let mut i = 0;
+    while i < all {
+        if !position_sound(l, n, slots, numbers, first, last, i) {
+            return false;
+        }
+        i += 1;
+    }
+    true
+}
+
+// The entry (i, j) of a square table that is stored row after row.
+pub fn cell_at(table: &[u8], width: usize, i: usize, j: usize) -> u8
+    requires { ⌜ InTable width (now table) i j ⌝ }
+    ensures { λ r. ⌜ r ≡ cell width (now (table .entry)) i j ⌝ }
+{
+    let at = i * width + j;
+    table[at]
+}
+
+// Boxes pass between two different trains, and keep their limit.
+fn pair_sound(l: Limits, n: usize, width: usize, boxes: &[u8], i: usize, j: usize) -> bool
+    requires { ⌜ InTable width (now boxes) i j ⌝ }
+    ensures { λ r. ⌜ r ≡ pairSound l n width (now (boxes .entry)) i j ⌝ }
+{
+    let b = cell_at(boxes, width, i, j);
+    if (i < n) & (j < n) & (i != j) {
+        b <= l.boxes
+    } else {
+        b == 0
+    }
+}
+
+fn receiver_sound(l: Limits, n: usize, width: usize, boxes: &[u8], i: usize) -> bool
+    requires { ⌜ (l .trains ≤ width) × ((i < width) × (width * width ≤ length (now boxes))) ⌝ }
+    ensures { λ r. ⌜ r ≡ receiverSound l n width (now (boxes .entry)) i ⌝ }
+{
+    let all = l.trains;
+    let mut j = 0;
+    while j < all {
+        if !pair_sound(l, n, width, boxes, i, j) {
+            return false;
+        }
+        j += 1;
+    }
+    true
+}
+
+fn boxes_sound(l: Limits, n: usize, width: usize, boxes: &[u8]) -> bool
+    requires { ⌜ (l .trains ≤ width) × (width * width ≤ length (now boxes)) ⌝ }
+    ensures { λ r. ⌜ r ≡ each (l .trains) (receiverSound l n width (now (boxes .entry))) ⌝ }
+{
+    let all = l.trains;
+    let mut i = 0;
+    while i < all {
+        if !receiver_sound(l, n, width, boxes, i) {
+            return false;
+        }
+        i += 1;
+    }
+    true
+}
+
+// Whether a record is sound: some day file reads to it. For every record, sound or not.
+pub fn is_sound(day: Day) -> bool
+    ensures { λ r. ⌜ r ≡ sound dayLimits (yard day) ⌝ }
+{
+    let l = day_limits();
+    let numbers = day.numbers;
+    let first = day.first;
+    let last = day.last;
+    let boxes = day.boxes;
+    head_sound(l, day.trains, day.tracks, day.slots, day.revisit, day.split)
+        & positions_sound(l, day.trains, day.slots, &numbers, &first, &last)
+        & boxes_sound(l, day.trains, 12, &boxes)
+}
