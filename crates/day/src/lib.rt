@@ -141,12 +141,10 @@ fn positions_sound(
     ensures { λ r. ⌜ r ≡ each (l .trains) (positionSound l n slots (now (numbers .entry)) (now (first .entry)) (now (last .entry))) ⌝ }
 {
     let all = l.trains;
-    let mut i = 0;
-    while i < all {
+    for i in 0..all {
         if !position_sound(l, n, slots, numbers, first, last, i) {
             return false;
         }
-        i += 1;
     }
     true
 }
@@ -178,12 +176,10 @@ fn receiver_sound(l: Limits, n: usize, width: usize, boxes: &[u8], i: usize) -> 
     ensures { λ r. ⌜ r ≡ receiverSound l n width (now (boxes .entry)) i ⌝ }
 {
     let all = l.trains;
-    let mut j = 0;
-    while j < all {
+    for j in 0..all {
         if !pair_sound(l, n, width, boxes, i, j) {
             return false;
         }
-        j += 1;
     }
     true
 }
@@ -193,12 +189,10 @@ fn boxes_sound(l: Limits, n: usize, width: usize, boxes: &[u8]) -> bool
     ensures { λ r. ⌜ r ≡ each (l .trains) (receiverSound l n width (now (boxes .entry))) ⌝ }
 {
     let all = l.trains;
-    let mut i = 0;
-    while i < all {
+    for i in 0..all {
         if !receiver_sound(l, n, width, boxes, i) {
             return false;
         }
-        i += 1;
     }
     true
 }

@@ -2,14 +2,14 @@
 -- next turn and at its end. Every loop over positions, slots or lines in the crates above is stated by these.
 -- Assumes nothing.
 use mathlib.Core.Path.{_≡_, refl, sym, ap, ap₂, _∙_, subst}
-use mathlib.Core.Bool.{Bool, true, false, cond, _&&_, _||_, and-false, or-true}
+use mathlib.Core.Bool.{Bool, true, false, not, cond, _&&_, _||_}
 use mathlib.Core.Logic.{⊎-elim}
 use Prim.Native.Nat.{ℕ, zero, suc, _+_, _≤_, _<_, zero-le, suc-le-suc}
 use native.Mathlib.Nat.{le-of-suc-le-suc, not-suc-le-zero, eq-or-lt-of-le, le-refl, le-antisymm}
 use native.Mathlib.Numerals.{add-one}
 use native.Mathlib.Omega.{arith}
 use lib.Dec.{T}
-use Rattle.fold.specs.Test.{is-true, of-true, is-false, of-false, both, both-of, left, right, either-of}
+use Rattle.fold.specs.Test.{is-true, of-true, is-false, of-false, both, both-of, left, right, either-of, not-of, not-not}
 
 -- ---- definitions
 
@@ -183,3 +183,13 @@ lowest-before (suc n) p k h t = go (p 0) refl k h t (lowest-before n λ i. p (su
     go true e k l t later = not-suc-le-zero l
     go false e zero l t later = of-false e t
     go false e (suc k) l t later = later k (le-of-suc-le-suc l) t
+
+-- the lowest index that fails: none does, or one
+pub each-lowest : (n : ℕ) (p : ℕ → Bool) → n ≤ lowest n (λ i. not (p i)) → each n p ≡ true
+each-lowest n p h =
+    is-true (each n p)
+    (each-i n p (λ k l. not-not (p k) (lowest-before n (λ i. not (p i)) k (omega arith))))
+
+pub lowest-each : (n : ℕ) (p : ℕ → Bool) → lowest n (λ i. not (p i)) < n → each n p ≡ false
+lowest-each n p h =
+    each-fails n p (lowest n λ i. not (p i)) h (is-false (p (lowest n λ i. not (p i))) (not-of (p (lowest n λ i. not (p i))) (lowest-passes n (λ i. not (p i)) h)))

@@ -65,6 +65,10 @@ pub not-of : (a : Bool) → T (not a) → T a → ⊥
 not-of true t s = t
 not-of false t s = s
 
+pub not-not : (a : Bool) → (T (not a) → ⊥) → T a
+not-not true f = tt
+not-not false f = f tt
+
 -- neither passes
 pub neither : (a b : Bool) → (a || b) ≡ false → (a ≡ false) × (b ≡ false)
 neither true b e = absurd (of-true (sym e))

@@ -76,22 +76,20 @@ splits n a row = sum n (splitsTo n a row)
 unfoldable pub weighed : ℕ → ℕ → ℕ → ℕ → ℕ
 weighed w1 w2 revisits splits = w1 * revisits + w2 * splits
 
-unfoldable pub cost : Yard → List ℕ → ℕ
-unfolding weighed
-cost y row = weighed (y .revisit) (y .split) (revisits (y .trains) (received y) row) (splits (y .trains) (received y) row)
-
 -- 01: outcomes are revisits, splits, cost
 pub record Outcome : Type 0 where
   pub revisits : ℕ
   pub splits : ℕ
   pub cost : ℕ
 
+abbrev pub weighedCounts : ℕ → ℕ → ℕ → ℕ → Outcome
+weighedCounts w1 w2 revisits splits = record { revisits = revisits; splits = splits; cost = weighed w1 w2 revisits splits }
+
 abbrev pub outcome : Yard → List ℕ → Outcome
-outcome y row = record {
-  revisits = revisits (y .trains) (received y) row;
-  splits = splits (y .trains) (received y) row;
-  cost = cost y row;
-}
+outcome y row = weighedCounts (y .revisit) (y .split) (revisits (y .trains) (received y) row) (splits (y .trains) (received y) row)
+
+unfoldable pub cost : Yard → List ℕ → ℕ
+cost y row = outcome y row .cost
 
 -- ---- allowed rows
 

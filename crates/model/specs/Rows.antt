@@ -29,39 +29,49 @@ pub le-both : (a b c d : ℕ) → (a ≤ b) × (c ≤ d) → T (leb a b && leb c
 le-both a b c d p = both (leb a b) (leb c d) (le→leb a b (p .0)) (le→leb c d (p .1))
 
 module _ (y : Yard) (row : List ℕ) where
-  long : Bool
+  -- a slot for each position; one of 1 to T, (2); in its window, (12); room in each slot, (3)
+  abbrev pub long : Bool
   long = eqb (length row) (y .trains)
 
-  slotted : Bool
+  abbrev pub slotted : Bool
   slotted = each (y .trains) (inSlots (y .slots) row)
 
-  windowed : Bool
+  abbrev pub windowed : Bool
   windowed = each (y .trains) (inWindow (y .first) (y .last) row)
 
-  spacious : Bool
+  abbrev pub spacious : Bool
   spacious = each (y .slots) λ t. roomy (y .trains) (y .tracks) row (suc t)
 
+  -- the four tests of an allowed row, apart and together
+  pub allowed-tests : T (allowed y row) → T long × T slotted × T windowed × T spacious
+  unfolding allowed
+  allowed-tests t =
+      let (p, room) = both-of (long && slotted && windowed) spacious t in
+      let (q, inside) = both-of (long && slotted) windowed p in
+      let (a, b) = both-of long slotted q in
+      (a, b, inside, room)
+
+  pub tests-allowed : T long → T slotted → T windowed → T spacious → T (allowed y row)
+  unfolding allowed
+  tests-allowed a b inside room = both (long && slotted && windowed) spacious (both (long && slotted) windowed (both long slotted a b) inside) room
+
   pub allowed-is : T (allowed y row) → Allowed y row
-  unfolding allowed long slotted windowed spacious inSlots inWindow roomy
+  unfolding inSlots inWindow roomy
   allowed-is t =
-      let p = both-of (long && slotted && windowed) spacious t in
-      let q = both-of (long && slotted) windowed (p .0) in
-      let s = both-of long slotted (q .0) in
+      let (a, b, inside, room) = allowed-tests t in
       record {
-        long = eqb→eq (length row) (y .trains) (s .0);
-        slotted = λ i h. both-le 1 (slotOf row i) (slotOf row i) (y .slots) (each-at (y .trains) (inSlots (y .slots) row) (s .1) i h);
-        windowed = λ i h. both-le (firstSlot y i) (slotOf row i) (slotOf row i) (lastSlot y i) (each-at (y .trains) (inWindow (y .first) (y .last) row) (q .1) i h);
-        room = λ t h. leb→le (load (y .trains) row (suc t)) (y .tracks) (each-at (y .slots) (λ t. roomy (y .trains) (y .tracks) row (suc t)) (p .1) t h);
+        long = eqb→eq (length row) (y .trains) a;
+        slotted = λ i h. both-le 1 (slotOf row i) (slotOf row i) (y .slots) (each-at (y .trains) (inSlots (y .slots) row) b i h);
+        windowed = λ i h. both-le (firstSlot y i) (slotOf row i) (slotOf row i) (lastSlot y i) (each-at (y .trains) (inWindow (y .first) (y .last) row) inside i h);
+        room = λ t h. leb→le (load (y .trains) row (suc t)) (y .tracks) (each-at (y .slots) (λ t. roomy (y .trains) (y .tracks) row (suc t)) room t h);
       }
 
   pub is-allowed : Allowed y row → T (allowed y row)
-  unfolding allowed long slotted windowed spacious inSlots inWindow roomy
+  unfolding inSlots inWindow roomy
   is-allowed a =
-      both (long && slotted && windowed) spacious
-      (both (long && slotted) windowed
-      (both long slotted (of-true (eq-eqb (length row) (y .trains) (a .long)))
-      (each-i (y .trains) (inSlots (y .slots) row) (λ i h. le-both 1 (slotOf row i) (slotOf row i) (y .slots) (a .slotted i h))))
-      (each-i (y .trains) (inWindow (y .first) (y .last) row) (λ i h. le-both (firstSlot y i) (slotOf row i) (slotOf row i) (lastSlot y i) (a .windowed i h))))
+      tests-allowed (of-true (eq-eqb (length row) (y .trains) (a .long)))
+      (each-i (y .trains) (inSlots (y .slots) row) (λ i h. le-both 1 (slotOf row i) (slotOf row i) (y .slots) (a .slotted i h)))
+      (each-i (y .trains) (inWindow (y .first) (y .last) row) (λ i h. le-both (firstSlot y i) (slotOf row i) (slotOf row i) (lastSlot y i) (a .windowed i h)))
       (each-i (y .slots) (λ t. roomy (y .trains) (y .tracks) row (suc t)) (λ t h. le→leb (load (y .trains) row (suc t)) (y .tracks) (a .room t h)))
 
 -- ---- every row of n slots in 1..m, and that none is missing

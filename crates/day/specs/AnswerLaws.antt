@@ -1,0 +1,29 @@
+-- A call's checks taken together: where all hold the answer is given, and where something is given all hold.
+-- Assumes nothing.
+use mathlib.Core.Path.{_≡_, refl, ap, _∙_}
+use mathlib.Core.Bool.{Bool, true, false, cond}
+use mathlib.Core.List.{List, [], _∷_}
+use Prim.Native.Nat.{ℕ}
+use native.Mathlib.Omega.{arith}
+use lib.Dec.{T}
+use Rattle.fold.specs.Test.{is-true}
+use Rattle.day.specs.Answer.{Answer, gives, refuses, Check, must, checked}
+
+abbrev pub AllHold : List Check → Type 0
+AllHold [] = Unit
+AllHold (must holds k carries ∷ checks) = T holds × AllHold checks
+
+module _ {X : Type 0} where
+  pub checked-holds : (checks : List Check) (a : Answer X) → AllHold checks → checked checks a ≡ a
+  checked-holds [] a t = refl
+  checked-holds (must holds k carries ∷ checks) a t =
+      ap (λ b. cond b (checked checks a) (refuses k carries)) (is-true holds (t .0)) ∙ checked-holds checks a (t .1)
+
+  pub checked-gives : (checks : List Check) (a : Answer X) (x : X) → checked checks a ≡ gives x → AllHold checks × (a ≡ gives x)
+  checked-gives [] a x e = (tt, e)
+  checked-gives (must holds k carries ∷ checks) a x e = go holds e (checked-gives checks a x)
+    where
+      go : (b : Bool) → cond b (checked checks a) (refuses k carries) ≡ gives x → (checked checks a ≡ gives x → AllHold checks × (a ≡ gives x))
+          → (T b × AllHold checks) × (a ≡ gives x)
+      go true e rest = let (h, q) = rest e in ((tt, h), q)
+      go false e rest = absurd (let z : _≡_ {A = ℕ} 0 1 = cc in omega arith)

@@ -1,0 +1,57 @@
+use Prim.Native.Nat.{_≤_, _-_, _*_}
+use mathlib.Core.Path.{_≡_, sym, _∙_}
+use borrow.Author.Needs.{needs}
+use native.Mathlib.Omega.{arith}
+use Rattle.fold.specs.Fold.{sum, sum-none, sum-next, at-end}
+use Rattle.model.specs.Model.{cell, splitsTo, splits}
+use Rattle.valuing.proofs.count_splits.Statement.{statement}
+use Rattle.valuing.proofs.count_splits.Tie as tie
+
+abbrev Inv-loop : tie.InvT-loop
+Inv-loop boxes width slots n total₀ i₀ total i = (i ≤ n) × (total ≡ sum i (splitsTo n (cell width boxes) slots)) × (total ≤ 16320 * i)
+
+abbrev μ-loop : tie.MeasureT-loop
+μ-loop boxes width slots n total₀ i₀ total i = n - i
+
+loop-holds : tie.Need-loop-holds Inv-loop μ-loop
+loop-holds c = (search needs, sym (sum-none _), search needs)
+
+splits-to-requires : tie.Need-splits-to-requires Inv-loop μ-loop
+splits-to-requires c κs = search needs
+
+add-total : tie.Need-add-total Inv-loop μ-loop
+add-total c = omega arith
+
+add-i : tie.Need-add-i Inv-loop μ-loop
+add-i c = search needs
+
+loop-less : tie.Need-loop-less Inv-loop μ-loop
+loop-less c = search needs
+
+loop-again : tie.Need-loop-again Inv-loop μ-loop
+loop-again c =
+    let a = c .before .before .before .before .before .args in
+    let next = sum-next (c .before .before .loop .i) (splitsTo (a .n) (cell (a .width) (a .boxes .now)) (a .slots .now)) in
+    omega arith
+
+returns : tie.Need-returns Inv-loop μ-loop
+unfolding splits
+returns c =
+    let a = c .before .before .before .before .args in
+    let l = c .before .loop in
+    let end = at-end (λ k. sum k (splitsTo (a .n) (cell (a .width) (a .boxes .now)) (a .slots .now))) (l .i) (a .n) (l .inv .0) (c .loop-test .left) in
+    (l .inv .1 ∙ end, omega arith)
+
+pub count-splits-spec : {M : Type 1} → statement M
+count-splits-spec =
+    tie.close
+    (tie.spec
+    Inv-loop
+    μ-loop
+    loop-holds
+    splits-to-requires
+    add-total
+    add-i
+    loop-less
+    loop-again
+    returns)

@@ -1,0 +1,37 @@
+use mathlib.Core.Path.{refl, _∙_}
+use borrow.Author.Tests.{eq-eqb, ne-eqb}
+use Rattle.model.specs.Model.{splitBoxes}
+use borrow.Author.Needs.{needs}
+use Rattle.valuing.proofs.split_boxes.Statement.{statement}
+use Rattle.valuing.proofs.split_boxes.Tie as tie
+
+shared-slice-read-if1 : tie.Need-shared-slice-read-if1
+shared-slice-read-if1 c = c .before .before .before .pre .to
+
+shared-slice-read-if1-2 : tie.Need-shared-slice-read-if1-2
+shared-slice-read-if1-2 c = c .before .before .before .before .pre .from
+
+cell-at-requires : tie.Need-cell-at-requires
+cell-at-requires c κs = c .before .before .before .before .before .pre .table
+
+wide-requires : tie.Need-wide-requires
+wide-requires c κs = search needs
+
+returns : tie.Need-returns
+unfolding splitBoxes
+returns c = (rw (eq-eqb _ _ (c .if1 .taken)), search needs)
+
+returns-2 : tie.Need-returns-2
+unfolding splitBoxes
+returns-2 c = (rw (ne-eqb _ _ (c .before .before .if1 .left)) (c .wide .ensures .0 ∙ c .before .cell-at .ensures), c .wide .ensures .1)
+
+pub split-boxes-spec : {M : Type 1} → statement M
+split-boxes-spec =
+    tie.close
+    (tie.spec
+    shared-slice-read-if1
+    shared-slice-read-if1-2
+    cell-at-requires
+    wide-requires
+    returns
+    returns-2)

@@ -1,0 +1,58 @@
+use Prim.Native.Nat.{_≤_, _-_, _*_}
+use mathlib.Core.Path.{_≡_, sym, ap, _∙_}
+use borrow.Author.Needs.{needs}
+use native.Mathlib.Omega.{arith}
+use Rattle.fold.specs.Fold.{sum, sum-none, sum-next, at-end}
+use Rattle.model.specs.Model.{cell, splitBoxes, splitsTo}
+use Rattle.valuing.specs.Given.{given-pair}
+use Rattle.valuing.proofs.splits_to.Statement.{statement}
+use Rattle.valuing.proofs.splits_to.Tie as tie
+
+abbrev Inv-loop : tie.InvT-loop
+Inv-loop boxes width slots n i total₀ j₀ total j = (j ≤ n) × (total ≡ sum j (splitBoxes (cell width boxes) slots i)) × (total ≤ 255 * j)
+
+abbrev μ-loop : tie.MeasureT-loop
+μ-loop boxes width slots n i total₀ j₀ total j = n - j
+
+loop-holds : tie.Need-loop-holds Inv-loop μ-loop
+loop-holds c = (search needs, sym (sum-none _), search needs)
+
+split-boxes-requires : tie.Need-split-boxes-requires Inv-loop μ-loop
+split-boxes-requires c κs = given-pair (c .before .before .before .before .pre .0) (search needs) (search needs)
+
+add-total : tie.Need-add-total Inv-loop μ-loop
+add-total c = omega arith
+
+add-j : tie.Need-add-j Inv-loop μ-loop
+add-j c = search needs
+
+loop-less : tie.Need-loop-less Inv-loop μ-loop
+loop-less c = search needs
+
+loop-again : tie.Need-loop-again Inv-loop μ-loop
+loop-again c =
+    let a = c .before .before .before .before .before .args in
+    let next = sum-next (c .before .before .loop .j) (splitBoxes (cell (a .width) (a .boxes .now)) (a .slots .now) (a .i)) in
+    omega arith
+
+returns : tie.Need-returns Inv-loop μ-loop
+unfolding splitsTo
+returns c =
+    let a = c .before .before .before .before .args in
+    let l = c .before .loop in
+    let end = at-end (λ k. sum k (splitBoxes (cell (a .width) (a .boxes .now)) (a .slots .now) (a .i))) (l .j) (a .n) (l .inv .0) (c .loop-test .left) in
+    (l .inv .1 ∙ end, omega arith)
+
+pub splits-to-spec : {M : Type 1} → statement M
+splits-to-spec =
+    tie.close
+    (tie.spec
+    Inv-loop
+    μ-loop
+    loop-holds
+    split-boxes-requires
+    add-total
+    add-j
+    loop-less
+    loop-again
+    returns)

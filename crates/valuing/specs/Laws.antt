@@ -1,0 +1,88 @@
+-- The checks of valuing against the model: on a sound day a row is valued exactly where it is allowed, and then the answer is the
+-- model's.
+-- Assumes nothing.
+use mathlib.Core.Path.{_≡_, refl, sym, ap, _∙_, subst}
+use mathlib.Core.Bool.{Bool, true, false, not, cond, _&&_}
+use mathlib.Core.List.{List, [], _∷_}
+use Prim.Native.Nat.{ℕ, suc, _+_, _≤_, _<_}
+use native.Mathlib.Numerals.{add-one}
+use native.Mathlib.Omega.{arith}
+use lib.Dec.{T, eqb}
+use lib.ListN.{length}
+use borrow.Author.Tests.{eq-eqb, ne-eqb}
+use Rattle.fold.specs.Test.{is-true, of-true, both, both-of, clash}
+use Rattle.fold.specs.Fold.{each, each-at, each-i, lowest, each-lowest, lowest-each}
+use Rattle.model.specs.Model.{Yard, slotOf, firstSlot, lastSlot, Outcome, outcome, inSlots, inWindow, roomy, allowed}
+use Rattle.model.specs.Rows
+use Rattle.model.specs.Rows.{windowed, allowed-tests, tests-allowed, both-le, le-both}
+use Rattle.day.specs.Sound.{sound}
+use Rattle.day.specs.SoundLaws.{sound-is}
+use Rattle.day.specs.Answer.{Answer, gives, refuses}
+use Rattle.day.specs.AnswerLaws.{checked-holds, checked-gives}
+use Rattle.day.specs.declared.Limits.{Limits}
+use Rattle.valuing.specs.Valuing.{strays, overfull, rowChecks, valued}
+
+-- the test of slot t + 1, as the code asks it
+pub overfull-is : (n tracks : ℕ) (row : List ℕ) (t : ℕ) {r : Bool} → r ≡ roomy n tracks row (t + 1) → overfull n tracks row t ≡ not r
+unfolding overfull
+overfull-is n tracks row t e = ap not (sym (e ∙ ap (roomy n tracks row) (add-one t)))
+
+-- ---- each answer, from what the code has found
+
+module _ (l : Limits) (y : Yard) (row : List ℕ) where
+  pub says-unsound : sound l y ≡ false → refuses 8 (0 ∷ []) ≡ valued l y row
+  unfolding valued
+  says-unsound s = simp s
+
+  pub says-length : sound l y ≡ true → (length row ≡ y .trains → ⊥) → refuses 11 (0 ∷ []) ≡ valued l y row
+  unfolding valued
+  says-length s h = simp (s, ne-eqb (length row) (y .trains) h)
+
+  module _ (s : sound l y ≡ true) (long : length row ≡ y .trains) where
+    pub says-stray : (i : ℕ) → i ≡ lowest (y .trains) (strays (y .first) (y .last) row) → i < y .trains → refuses 12 ((i + 1) ∷ []) ≡ valued l y row
+    unfolding valued strays
+    says-stray i e h =
+        let f : each (y .trains) (inWindow (y .first) (y .last) row) ≡ false =
+        lowest-each (y .trains) (inWindow (y .first) (y .last) row) (subst (λ k. k < y .trains) e h) in
+        simp (s, eq-eqb (length row) (y .trains) long, f, ← e, add-one)
+
+    module _ (inside : y .trains ≤ lowest (y .trains) (strays (y .first) (y .last) row)) where
+      within : each (y .trains) (inWindow (y .first) (y .last) row) ≡ true
+      unfolding strays
+      within = each-lowest (y .trains) (inWindow (y .first) (y .last) row) inside
+
+      pub says-overfull : (t : ℕ) → t ≡ lowest (y .slots) (overfull (y .trains) (y .tracks) row) → t < y .slots → refuses 13 ((t + 1) ∷ []) ≡ valued l y row
+      unfolding valued overfull
+      says-overfull t e h =
+          let f = lowest-each (y .slots) (λ t. roomy (y .trains) (y .tracks) row (suc t)) (subst (λ k. k < y .slots) e h) in
+          simp (s, eq-eqb (length row) (y .trains) long, within, f, ← e, add-one)
+
+      pub says-values : y .slots ≤ lowest (y .slots) (overfull (y .trains) (y .tracks) row) → gives (outcome y row) ≡ valued l y row
+      unfolding valued overfull
+      says-values h =
+          let f = each-lowest (y .slots) (λ t. roomy (y .trains) (y .tracks) row (suc t)) h in
+          simp (s, eq-eqb (length row) (y .trains) long, within, f)
+
+-- ---- demand 2: each allowed row of a sound day has the model's numbers, and no other row has any
+
+module _ (l : Limits) (y : Yard) (row : List ℕ) where
+  pub valued-allowed : T (sound l y) → T (allowed y row) → valued l y row ≡ gives (outcome y row)
+  unfolding valued
+  valued-allowed s a =
+      let (long, slotted, inside, room) = allowed-tests y row a in
+      checked-holds (rowChecks l y row) (gives (outcome y row)) (s, (long, (inside, (room, tt))))
+
+  pub allowed-valued : (o : Outcome) → valued l y row ≡ gives o → T (sound l y) × T (allowed y row) × (outcome y row ≡ o)
+  unfolding valued
+  allowed-valued o e =
+      let (h, g) = checked-gives (rowChecks l y row) (gives (outcome y row)) o e in
+      (h .0, tests-allowed y row (h .1 .0) (slotted (h .0) (h .1 .1 .0)) (h .1 .1 .0) (h .1 .1 .1 .0), cc)
+    where
+      -- the windows of a sound day lie in its slots
+      slotted : T (sound l y) → T (windowed y row) → T (Rows.slotted y row)
+      slotted s w =
+          each-i (y .trains) (inSlots (y .slots) row)
+          (λ i h.
+          let (a, b, c) = sound-is l y s .windows i h in
+          let (p, q) = both-le (firstSlot y i) (slotOf row i) (slotOf row i) (lastSlot y i) (unfold inWindow in each-at (y .trains) (inWindow (y .first) (y .last) row) w i h) in
+          unfold inSlots in le-both 1 (slotOf row i) (slotOf row i) (y .slots) (omega arith, omega arith))

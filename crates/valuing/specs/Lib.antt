@@ -1,0 +1,3 @@
+pub mod Valuing
+pub mod Given
+pub mod Laws
