@@ -1,0 +1,60 @@
+-- Days written by hand: windows and moves as document 01 lists them, padded to a day record.
+-- Assumes nothing.
+use mathlib.Core.List.{List, [], _∷_, _++_}
+use Prim.Native.Nat.{ℕ, suc, _+_, _-_, _*_}
+use lib.ListN.{length, set, replicate}
+use Rattle.fold.specs.Listed.{listed}
+use Rattle.day.specs.declared.Day.{Day}
+
+-- a row of the day file's third section, `to from boxes`, with positions counted from 1
+pub data Move : Type 0 where
+  move : ℕ → ℕ → ℕ → Move
+
+unfoldable pub boxTable : List Move → List ℕ
+boxTable [] = replicate 144 0
+boxTable (move to from boxes ∷ moves) = set (boxTable moves) ((to - 1) * 12 + (from - 1)) boxes
+
+unfoldable pub padded : List ℕ → List ℕ
+padded l = l ++ replicate (12 - length l) 0
+
+-- n trains with the numbers 1 to n, G tracks, T slots, two weights, first slots, last slots, moves
+unfoldable pub dayOf : ℕ → ℕ → ℕ → ℕ → ℕ → List ℕ → List ℕ → List Move → Day
+unfolding boxTable padded listed
+dayOf n tracks slots revisit split first last moves = record {
+  trains = n;
+  tracks = tracks;
+  slots = slots;
+  revisit = revisit;
+  split = split;
+  numbers = padded (listed n suc);
+  first = padded first;
+  last = padded last;
+  boxes = boxTable moves;
+}
+
+-- windows 1..T and weights 1
+unfoldable pub openDay : ℕ → ℕ → ℕ → List Move → Day
+unfolding dayOf
+openDay n tracks slots moves = dayOf n tracks slots 1 1 (replicate n 1) (replicate n slots) moves
+
+-- P1's day, its weights, and the first slot of train 4
+unfoldable pub paperDay : ℕ → ℕ → ℕ → Day
+unfolding dayOf
+paperDay revisit split first4 =
+    dayOf 4 2 2 revisit split (1 ∷ 1 ∷ 1 ∷ first4 ∷ []) (2 ∷ 2 ∷ 2 ∷ 2 ∷ [])
+    (move 1 4 1 ∷ move 3 1 3 ∷ move 3 4 5 ∷ move 4 2 6 ∷ move 4 3 1 ∷ [])
+
+-- two trains with numbers of their own
+unfoldable pub numbered : List ℕ → Day
+unfolding padded boxTable
+numbered numbers = record {
+  trains = 2;
+  tracks = 1;
+  slots = 2;
+  revisit = 1;
+  split = 1;
+  numbers = padded numbers;
+  first = padded (1 ∷ 1 ∷ []);
+  last = padded (2 ∷ 2 ∷ []);
+  boxes = boxTable [];
+}

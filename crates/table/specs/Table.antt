@@ -1,0 +1,238 @@
+-- P1 to P13 of document 01, its edges and the refusals 8, 11, 12 and 13, as one table, and the one theorem that every line holds:
+--     every-line : (l : Line) → List·Memᴰ l table → Holds l
+-- The checker computes one test over the whole table; `line-holds` turns a line's test into its statement. "The best plan" speaks of
+-- every row, through the enumeration of the model's Rows.antt, which is proved complete.
+-- Assumes nothing.
+use mathlib.Core.Path.{_≡_, refl, sym, ap, ap₂, subst, subst₂}
+use mathlib.Core.Bool.{Bool, true, false, not, cond, _&&_}
+use mathlib.Core.Logic.{⊎-elim}
+use mathlib.Core.Option.{Option, none, some}
+use mathlib.Core.List.{List, [], _∷_, List·Memᴰ, List·Memᴰ·not-nil, List·Memᴰ·cases-cons}
+use Prim.Native.Nat.{ℕ}
+use lib.Dec.{T, eqb, eqb→eq}
+use lib.ListN.{replicate}
+use Rattle.fold.specs.Test.{is-true, is-false, both-of, not-of, sameList, same-list}
+use Rattle.fold.specs.Fold
+use Rattle.fold.specs.Fold.{sum, count, each, lowest}
+use Rattle.sets.specs.Mask.{mask}
+use Rattle.model.specs.Model.{Outcome, outcome, cost, allowed, precedes, Best, NoRow, FirstOverbooked, boundInside, lateSupplier, revisiting, revisits, splitBoxes, splitsTo, splits, weighed, inSlots, inWindow, load, roomy, slotMask, lower, bound, exceeds, overbooked}
+use Rattle.model.specs.Rows.{allRows}
+use Rattle.model.specs.Order.{byKey, pick}
+use Rattle.model.specs.BestOf.{bestOf, is-best, is-none}
+use Rattle.model.specs.Overbooked.{Interval, firstOverbooked, first-says, SaysFirst, overbookedFrom, overbookedFirst, overbookedLast}
+use Rattle.day.specs.Answer.{Answer, gives, refuses}
+use Rattle.day.specs.Sound.{dayLimits, yard, sound, headSound, numberBefore, trainSound, unused, positionSound, pairSound, receiverSound}
+use Rattle.day.specs.declared.Day.{Day}
+use Rattle.valuing.specs.Valuing.{valued, strays, overfull}
+use Rattle.table.specs.Days.{move, boxTable, padded, dayOf, openDay, paperDay, numbered}
+
+-- ---- what a line says
+
+pub data Line : Type 0 where
+  values : Day → List ℕ → Answer Outcome → Line
+  best : Day → List ℕ → Outcome → Line
+  later : Day → List ℕ → List ℕ → ℕ → Line
+  refused : Day → ℕ → ℕ → ℕ → Line
+  accepted : Day → Bool → Line
+
+abbrev pub Holds : Line → Type 0
+-- valuing the row gives this answer
+Holds (values d row a) = valued dayLimits (yard d) row ≡ a
+-- the row is the best plan, with this outcome
+Holds (best d row o) = Best (yard d) row × (outcome (yard d) row ≡ o)
+-- two allowed rows of this cost, of which the second comes later
+Holds (later d r s c) =
+    T (allowed (yard d) r) × T (allowed (yard d) s) × (cost (yard d) r ≡ c) × (cost (yard d) s ≡ c) × T (precedes (yard d) r s)
+-- no row is allowed, and the first overbooked interval is a..b with k trains bound inside
+Holds (refused d a b k) = NoRow (yard d) × FirstOverbooked (yard d) a b × (boundInside (yard d) a b ≡ k)
+-- the record is sound, or not
+Holds (accepted d b) = sound dayLimits (yard d) ≡ b
+
+-- ---- the table
+
+abbrev pub counts : ℕ → ℕ → ℕ → Outcome
+counts revisits splits cost = record { revisits = revisits; splits = splits; cost = cost }
+
+unfoldable pub table : List Line
+unfolding dayOf openDay paperDay numbered
+table =
+    -- P1 to P3, the source's example
+    best (paperDay 1 1 1) (2 ∷ 1 ∷ 2 ∷ 1 ∷ []) (counts 1 7 8)
+    ∷ values (paperDay 1 1 1) (2 ∷ 1 ∷ 2 ∷ 1 ∷ []) (gives (counts 1 7 8))
+    ∷ values (paperDay 1 1 1) (2 ∷ 1 ∷ 1 ∷ 2 ∷ []) (gives (counts 1 15 16))
+    ∷ values (paperDay 1 1 1) (1 ∷ 1 ∷ 2 ∷ 2 ∷ []) (gives (counts 1 10 11))
+    -- P4 weights 0 and 1, P5 weights 0 and 0
+    ∷ best (paperDay 0 1 1) (2 ∷ 1 ∷ 2 ∷ 1 ∷ []) (counts 1 7 7)
+    ∷ later (paperDay 0 1 1) (2 ∷ 1 ∷ 2 ∷ 1 ∷ []) (1 ∷ 2 ∷ 1 ∷ 2 ∷ []) 7
+    ∷ best (paperDay 0 0 1) (2 ∷ 2 ∷ 1 ∷ 1 ∷ []) (counts 2 10 0)
+    -- P6 train 4 bound to slot 2, P7 the same with weights 4 and 1
+    ∷ best (paperDay 1 1 2) (1 ∷ 2 ∷ 1 ∷ 2 ∷ []) (counts 2 7 9)
+    ∷ best (paperDay 4 1 2) (1 ∷ 1 ∷ 2 ∷ 2 ∷ []) (counts 1 10 14)
+    -- P8 one train
+    ∷ best (openDay 1 1 1 []) (1 ∷ []) (counts 0 0 0)
+    -- P9 and P10, overbooked
+    ∷ refused (dayOf 3 2 2 1 1 (1 ∷ 1 ∷ 1 ∷ []) (1 ∷ 1 ∷ 1 ∷ []) []) 1 1 3
+    ∷ refused (openDay 3 1 2 []) 1 2 3
+    -- P11 to P13
+    ∷ best (openDay 2 1 2 (move 1 2 1 ∷ move 2 1 1 ∷ [])) (2 ∷ 1 ∷ []) (counts 1 2 3)
+    ∷ best (openDay 2 2 2 (move 1 2 1 ∷ move 2 1 1 ∷ [])) (1 ∷ 1 ∷ []) (counts 0 0 0)
+    ∷ best (openDay 3 1 3 (move 1 2 1 ∷ [])) (3 ∷ 2 ∷ 1 ∷ []) (counts 0 1 1)
+    -- the edges: 12 trains and 13, weights 65535 and 65536, G trains in a slot and G + 1
+    ∷ accepted (openDay 12 12 8 []) true
+    ∷ accepted (dayOf 13 12 8 1 1 (replicate 12 1) (replicate 12 8) []) false
+    ∷ accepted (openDay 0 1 1 []) false
+    ∷ accepted (openDay 2 13 1 []) false
+    ∷ accepted (openDay 2 1 9 []) false
+    ∷ accepted (paperDay 65535 65535 1) true
+    ∷ accepted (paperDay 65536 1 1) false
+    ∷ accepted (paperDay 1 65536 1) false
+    ∷ values (openDay 4 2 2 []) (1 ∷ 1 ∷ 2 ∷ 2 ∷ []) (gives (counts 0 0 0))
+    ∷ values (openDay 4 2 2 []) (1 ∷ 1 ∷ 1 ∷ 2 ∷ []) (refuses 13 (1 ∷ []))
+    -- records that are not sound: windows outside 1..T or reversed, an unused position that is not 0, boxes from a train to itself
+    -- or from a train that is not there, 256 boxes, a number above 255, numbers that do not rise
+    ∷ accepted (dayOf 1 1 2 1 1 (0 ∷ []) (2 ∷ []) []) false
+    ∷ accepted (dayOf 1 1 2 1 1 (1 ∷ []) (3 ∷ []) []) false
+    ∷ accepted (dayOf 1 1 2 1 1 (2 ∷ []) (1 ∷ []) []) false
+    ∷ accepted (dayOf 1 1 2 1 1 (1 ∷ 1 ∷ []) (2 ∷ []) []) false
+    ∷ accepted (openDay 2 1 2 (move 2 2 1 ∷ [])) false
+    ∷ accepted (openDay 2 1 2 (move 1 3 1 ∷ [])) false
+    ∷ accepted (openDay 2 1 2 (move 1 2 255 ∷ [])) true
+    ∷ accepted (openDay 2 1 2 (move 1 2 256 ∷ [])) false
+    ∷ accepted (numbered (3 ∷ 255 ∷ [])) true
+    ∷ accepted (numbered (3 ∷ 256 ∷ [])) false
+    ∷ accepted (numbered (3 ∷ 3 ∷ [])) false
+    ∷ accepted (numbered (3 ∷ 2 ∷ [])) false
+    ∷ accepted (numbered (0 ∷ 2 ∷ [])) false
+    -- refusals 8, 11, 12, 13 in this order, with the lowest position and the lowest slot
+    ∷ values (dayOf 13 12 8 1 1 (replicate 12 1) (replicate 12 8) []) (1 ∷ []) (refuses 8 (0 ∷ []))
+    ∷ values (paperDay 65536 1 1) (0 ∷ 1 ∷ []) (refuses 8 (0 ∷ []))
+    ∷ values (paperDay 1 1 1) (2 ∷ 1 ∷ 2 ∷ []) (refuses 11 (0 ∷ []))
+    ∷ values (paperDay 1 1 1) (2 ∷ 1 ∷ 2 ∷ 1 ∷ 1 ∷ []) (refuses 11 (0 ∷ []))
+    ∷ values (paperDay 1 1 1) (0 ∷ 0 ∷ 0 ∷ []) (refuses 11 (0 ∷ []))
+    ∷ values (paperDay 1 1 1) (2 ∷ 0 ∷ 2 ∷ 3 ∷ []) (refuses 12 (2 ∷ []))
+    ∷ values (paperDay 1 1 2) (1 ∷ 1 ∷ 1 ∷ 1 ∷ []) (refuses 12 (4 ∷ []))
+    ∷ values (paperDay 1 1 1) (1 ∷ 2 ∷ 2 ∷ 2 ∷ []) (refuses 13 (2 ∷ []))
+    ∷ values (openDay 4 1 2 []) (1 ∷ 1 ∷ 2 ∷ 2 ∷ []) (refuses 13 (1 ∷ []))
+    ∷ []
+
+-- ---- the test of a line
+
+sameOutcome : Outcome → Outcome → Bool
+sameOutcome a b = eqb (a .revisits) (b .revisits) && eqb (a .splits) (b .splits) && eqb (a .cost) (b .cost)
+
+sameAnswer : Answer Outcome → Answer Outcome → Bool
+sameAnswer (gives a) (gives b) = sameOutcome a b
+sameAnswer (gives a) (refuses m cs) = false
+sameAnswer (refuses k bs) (gives b) = false
+sameAnswer (refuses k bs) (refuses m cs) = eqb k m && sameList bs cs
+
+isRow : Option (List ℕ) → List ℕ → Bool
+isRow none row = false
+isRow (some r) row = sameList r row
+
+isNone : Option (List ℕ) → Bool
+isNone none = true
+isNone (some r) = false
+
+isInterval : Option Interval → ℕ → ℕ → Bool
+isInterval none a b = false
+isInterval (some w) a b = eqb (w .first) a && eqb (w .last) b
+
+passes : Line → Bool
+passes (values d row a) = sameAnswer (valued dayLimits (yard d) row) a
+passes (best d row o) = isRow (bestOf (yard d)) row && sameOutcome (outcome (yard d) row) o
+passes (later d r s c) =
+    allowed (yard d) r && allowed (yard d) s && eqb (cost (yard d) r) c && eqb (cost (yard d) s) c && precedes (yard d) r s
+passes (refused d a b k) = isNone (bestOf (yard d)) && isInterval (firstOverbooked (yard d)) a b && eqb (boundInside (yard d) a b) k
+passes (accepted d b) = cond b (sound dayLimits (yard d)) (not (sound dayLimits (yard d)))
+
+allPass : List Line → Bool
+allPass [] = true
+allPass (l ∷ ls) = passes l && allPass ls
+
+-- the one computation
+computed : T (allPass table)
+unfolding allPass passes sameOutcome sameAnswer sameList isRow isNone isInterval table sum count each Fold.some lowest mask lateSupplier revisiting revisits splitBoxes splitsTo splits weighed cost inSlots inWindow load roomy allowed slotMask lower precedes bound exceeds overbooked allRows byKey pick bestOf overbookedFrom overbookedFirst overbookedLast firstOverbooked headSound numberBefore trainSound unused positionSound pairSound receiverSound sound strays overfull valued
+computed = tt
+
+-- ---- from the test to the statement
+
+same-outcome : (a b : Outcome) → T (sameOutcome a b) → a ≡ b
+unfolding sameOutcome
+same-outcome a b t =
+    let (p, c) = both-of (eqb (a .revisits) (b .revisits) && eqb (a .splits) (b .splits)) (eqb (a .cost) (b .cost)) t in
+    let (r, s) = both-of (eqb (a .revisits) (b .revisits)) (eqb (a .splits) (b .splits)) p in
+    let re = eqb→eq (a .revisits) (b .revisits) r in
+    let se = eqb→eq (a .splits) (b .splits) s in
+    let ce = eqb→eq (a .cost) (b .cost) c in
+    λ i. record { revisits = re i; splits = se i; cost = ce i }
+
+same-answer : (a b : Answer Outcome) → T (sameAnswer a b) → a ≡ b
+unfolding sameAnswer
+same-answer (gives a) (gives b) t = ap gives (same-outcome a b t)
+same-answer (gives a) (refuses m cs) t = absurd t
+same-answer (refuses k bs) (gives b) t = absurd t
+same-answer (refuses k bs) (refuses m cs) t =
+    let (p, q) = both-of (eqb k m) (sameList bs cs) t in
+    ap₂ refuses (eqb→eq k m p) (same-list bs cs q)
+
+is-row : (o : Option (List ℕ)) (row : List ℕ) → T (isRow o row) → o ≡ some row
+unfolding isRow
+is-row none row t = absurd t
+is-row (some r) row t = ap some (same-list r row t)
+
+no-row : (o : Option (List ℕ)) → T (isNone o) → o ≡ none
+unfolding isNone
+no-row none t = refl
+no-row (some r) t = absurd t
+
+module _ (d : Day) where
+  interval-holds : (o : Option Interval) (a b : ℕ) → SaysFirst (yard d) o → T (isInterval o a b) → FirstOverbooked (yard d) a b
+  unfolding isInterval
+  interval-holds none a b s t = absurd t
+  interval-holds (some w) a b s t =
+      let (p, q) = both-of (eqb (w .first) a) (eqb (w .last) b) t in
+      subst₂ (FirstOverbooked (yard d)) (eqb→eq (w .first) a p) (eqb→eq (w .last) b q) s
+
+  later-holds : (r s : List ℕ) (c : ℕ) → T (passes (later d r s c)) → Holds (later d r s c)
+  unfolding passes
+  later-holds r s c t =
+      let y = yard d in
+      let (p, before) = both-of (allowed y r && allowed y s && eqb (cost y r) c && eqb (cost y s) c) (precedes y r s) t in
+      let (q, second) = both-of (allowed y r && allowed y s && eqb (cost y r) c) (eqb (cost y s) c) p in
+      let (u, first) = both-of (allowed y r && allowed y s) (eqb (cost y r) c) q in
+      let (a, b) = both-of (allowed y r) (allowed y s) u in
+      (a, b, eqb→eq (cost y r) c first, eqb→eq (cost y s) c second, before)
+
+  refused-holds : (a b k : ℕ) → T (passes (refused d a b k)) → Holds (refused d a b k)
+  unfolding passes
+  refused-holds a b k t =
+      let y = yard d in
+      let (p, trains) = both-of (isNone (bestOf y) && isInterval (firstOverbooked y) a b) (eqb (boundInside y a b) k) t in
+      let (q, w) = both-of (isNone (bestOf y)) (isInterval (firstOverbooked y) a b) p in
+      (is-none y (no-row (bestOf y) q), interval-holds (firstOverbooked y) a b (first-says y) w, eqb→eq (boundInside y a b) k trains)
+
+  accepted-holds : (b : Bool) → T (passes (accepted d b)) → Holds (accepted d b)
+  unfolding passes
+  accepted-holds true t = is-true (sound dayLimits (yard d)) t
+  accepted-holds false t = is-false (sound dayLimits (yard d)) (not-of (sound dayLimits (yard d)) t)
+
+line-holds : (l : Line) → T (passes l) → Holds l
+unfolding passes
+line-holds (values d row a) t = same-answer (valued dayLimits (yard d) row) a t
+line-holds (best d row o) t =
+    let (p, q) = both-of (isRow (bestOf (yard d)) row) (sameOutcome (outcome (yard d) row) o) t in
+    (is-best (yard d) row (is-row (bestOf (yard d)) row p), same-outcome (outcome (yard d) row) o q)
+line-holds (later d r s c) t = later-holds d r s c t
+line-holds (refused d a b k) t = refused-holds d a b k t
+line-holds (accepted d b) t = accepted-holds d b t
+
+all-hold : (ls : List Line) → T (allPass ls) → (l : Line) → List·Memᴰ l ls → Holds l
+unfolding allPass
+all-hold [] t l m = absurd (List·Memᴰ·not-nil m)
+all-hold (x ∷ ls) t l m =
+    let (here, rest) = both-of (passes x) (allPass ls) t in
+    ⊎-elim (λ e. subst Holds (sym e) (line-holds x here)) (λ n. all-hold ls rest l n) (List·Memᴰ·cases-cons m)
+
+pub every-line : (l : Line) → List·Memᴰ l table → Holds l
+every-line = all-hold table computed
