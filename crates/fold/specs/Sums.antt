@@ -1,4 +1,4 @@
--- The algebra of sums and tests over the indices below a bound: terms replaced, sums added, scaled, exchanged and taken apart from
+-- The algebra of sums and tests over the indices below a bound: terms replaced, sums added, scaled, exchanged, and taken apart from
 -- the front.
 -- Assumes nothing.
 use mathlib.Core.Path.{_≡_, refl, sym, ap, ap₂, _∙_}
@@ -7,11 +7,10 @@ use mathlib.Core.Logic.{⊎-elim}
 use Prim.Native.Nat.{ℕ, zero, suc, _+_, _*_, _≤_, _<_, zero-le}
 use native.Mathlib.Nat.{le-of-suc-le-suc, eq-or-lt-of-le, add-zero, zero-add, mul-zero, mul-add, suc-mul}
 use native.Mathlib.Omega.{arith}
-use lib.Dec.{T, eqb}
+use lib.Dec.{eqb}
 use borrow.Author.Tests.{eq-eqb, ne-eqb}
-use Rattle.fold.specs.Test.{same-test, both, both-of}
 use Rattle.fold.specs.Counting.{le-or-lt}
-use Rattle.fold.specs.Fold.{bit, sum, count, some, each, each-at, each-i, below-suc}
+use Rattle.fold.specs.Fold.{bit, sum, count, some, each, below-suc}
 
 -- ---- terms that agree below the bound
 
@@ -113,13 +112,3 @@ pub sum-cons : (n : ℕ) (f : ℕ → ℕ) → sum (suc n) f ≡ sum n (λ i. f 
 unfolding sum
 sum-cons zero f = refl
 sum-cons (suc n) f = let h = sum-cons n f in omega arith
-
-pub each-cons : (n : ℕ) (p : ℕ → Bool) → each (suc n) p ≡ (p 0 && each n λ i. p (suc i))
-each-cons n p =
-    same-test (each (suc n) p) (p 0 && each n λ i. p (suc i))
-    (λ t. both (p 0) (each n λ i. p (suc i)) (each-at (suc n) p t 0 (omega arith)) (each-i n (λ i. p (suc i)) (λ k h. each-at (suc n) p t (suc k) (omega arith))))
-    (λ t. let w = both-of (p 0) (each n λ i. p (suc i)) t in each-i (suc n) p (first (w .0) (w .1)))
-  where
-    first : T (p 0) → T (each n λ i. p (suc i)) → (k : ℕ) → k < suc n → T (p k)
-    first a b zero h = a
-    first a b (suc k) h = each-at n (λ i. p (suc i)) b k (le-of-suc-le-suc h)

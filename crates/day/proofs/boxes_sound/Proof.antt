@@ -1,3 +1,5 @@
+-- `day::boxes_sound` meets its contract. The loop's invariant: every row of the table passed is sound.
+-- Assumes nothing.
 use Prim.Native.Nat.{_≤_, _-_}
 use mathlib.Core.Path.{_≡_, sym, _∙_}
 use mathlib.Core.Bool.{true}

@@ -1,3 +1,5 @@
+-- `day::cell_at` meets its contract. The index lies in the table, by `cell-index`.
+-- Assumes nothing.
 use native.Mathlib.Omega.{arith}
 use Rattle.model.specs.Cells.{cell-index}
 use borrow.Author.Needs.{needs}

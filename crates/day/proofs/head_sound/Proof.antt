@@ -1,3 +1,5 @@
+-- `day::head_sound` meets its contract. The test is the definition's, word for word.
+-- Assumes nothing.
 use mathlib.Core.Path.{refl}
 use Rattle.day.specs.Sound.{headSound}
 use Rattle.day.proofs.head_sound.Statement.{statement}

@@ -1,3 +1,5 @@
+-- `day::is_sound` meets its contract. Each part is tested over the record's own arrays, whose lengths the record's type gives.
+-- Assumes nothing.
 use mathlib.Core.Path.{_≡_, refl, ap}
 use native.Mathlib.Omega.{arith}
 use lib.ListN.{length}

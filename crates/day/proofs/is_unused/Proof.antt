@@ -1,3 +1,5 @@
+-- `day::is_unused` meets its contract. The test is the definition's, word for word.
+-- Assumes nothing.
 use mathlib.Core.Path.{refl}
 use Rattle.day.specs.Sound.{unused}
 use borrow.Author.Needs.{needs}

@@ -1,3 +1,5 @@
+-- `day::number_before` meets its contract. By the two cases of the index.
+-- Assumes nothing.
 use mathlib.Core.Path.{refl}
 use borrow.Author.Tests.{eq-eqb, ne-eqb}
 use Rattle.day.specs.Sound.{numberBefore}

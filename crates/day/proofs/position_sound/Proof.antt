@@ -1,3 +1,5 @@
+-- `day::position_sound` meets its contract. By the two cases of the test that the position is a train's.
+-- Assumes nothing.
 use borrow.Author.Tests.{lt-ltb, le-ltb}
 use Rattle.day.specs.Sound.{positionSound}
 use borrow.Author.Needs.{needs}

@@ -1,3 +1,5 @@
+-- `valuing::count_revisits` meets its contract. The loop's invariant: the count of the revisiting trains passed, at most one for each.
+-- Assumes nothing.
 use Prim.Native.Nat.{_≤_, _-_}
 use mathlib.Core.Path.{_≡_, sym, ap, _∙_}
 use mathlib.Core.Logic.{⊎-elim}

@@ -1,3 +1,5 @@
+-- `valuing::count_splits` meets its contract. The loop's invariant: the sum of the split moves of the trains passed, at most 16,320 for each.
+-- Assumes nothing.
 use Prim.Native.Nat.{_≤_, _-_, _*_}
 use mathlib.Core.Path.{_≡_, sym, _∙_}
 use borrow.Author.Needs.{needs}

@@ -1,3 +1,5 @@
+-- `valuing::first_overfull` meets its contract. The loop's invariant: no slot passed holds too many trains.
+-- Assumes nothing.
 use Rattle.valuing.specs.Laws.{overfull-is}
 use Prim.Native.Nat.{_≤_, _-_}
 use mathlib.Core.Path.{_≡_, sym, ap, _∙_}

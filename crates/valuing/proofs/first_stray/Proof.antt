@@ -1,3 +1,5 @@
+-- `valuing::first_stray` meets its contract. The loop's invariant: no position passed lies outside its window.
+-- Assumes nothing.
 use Prim.Native.Nat.{_≤_, _-_}
 use mathlib.Core.Path.{_≡_, sym, ap, _∙_}
 use mathlib.Core.Bool.{false, not}

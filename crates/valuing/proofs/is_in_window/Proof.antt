@@ -1,3 +1,5 @@
+-- `valuing::is_in_window` meets its contract. The test is the definition's, word for word.
+-- Assumes nothing.
 use mathlib.Core.Path.{refl}
 use Rattle.model.specs.Model.{inWindow}
 use borrow.Author.Needs.{needs}

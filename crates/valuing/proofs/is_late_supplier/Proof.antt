@@ -1,3 +1,5 @@
+-- `valuing::is_late_supplier` meets its contract. The test is the definition's, with the entry of the table put in.
+-- Assumes nothing.
 use mathlib.Core.Path.{refl}
 use Rattle.model.specs.Model.{lateSupplier}
 use borrow.Author.Needs.{needs}
@@ -5,7 +7,7 @@ use Rattle.valuing.proofs.is_late_supplier.Statement.{statement}
 use Rattle.valuing.proofs.is_late_supplier.Tie as tie
 
 cell-at-requires : tie.Need-cell-at-requires
-cell-at-requires c κs = c .before .before .pre .table
+cell-at-requires c κs = search needs
 
 shared-slice-read-result : tie.Need-shared-slice-read-result
 shared-slice-read-result c = c .before .before .before .before .pre .to

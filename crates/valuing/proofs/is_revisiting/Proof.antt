@@ -1,3 +1,5 @@
+-- `valuing::is_revisiting` meets its contract. The loop's invariant: no train passed is a late supplier.
+-- Assumes nothing.
 use Prim.Native.Nat.{_≤_, _-_}
 use mathlib.Core.Path.{_≡_, sym, _∙_}
 use mathlib.Core.Bool.{false}

@@ -1,3 +1,5 @@
+-- `valuing::slot_mask` meets its contract. The loop's invariant: the mask of the positions passed.
+-- Assumes nothing.
 use Prim.Native.Nat.{_≤_, _-_, _*_, _^_, _%_}
 use mathlib.Core.Path.{_≡_, sym, ap, _∙_}
 use mathlib.Core.Logic.{⊎-elim}

@@ -1,3 +1,5 @@
+-- `valuing::split_boxes` meets its contract. By the two cases of the test that the slots are equal.
+-- Assumes nothing.
 use mathlib.Core.Path.{refl, _∙_}
 use borrow.Author.Tests.{eq-eqb, ne-eqb}
 use Rattle.model.specs.Model.{splitBoxes}

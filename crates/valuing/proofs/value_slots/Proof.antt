@@ -1,3 +1,5 @@
+-- `valuing::value_slots` meets its contract. The three numbers, each by its own function.
+-- Assumes nothing.
 use mathlib.Core.Path.{ap₂, _∙_}
 use Rattle.model.specs.Model.{weighed}
 use borrow.Author.Needs.{needs}
