@@ -49,9 +49,13 @@ slotOf row i = getD row i 0
 
 -- ---- the two counts, of n trains with boxes a: equation (1)'s sums at the least y and z that (4) and (5) allow
 
--- j is a supplier of i, one of L_i, and has a later slot
+-- j is a supplier of i, one of L_i: A(i, j) is above 0
+abbrev pub supplies : (ℕ → ℕ → ℕ) → ℕ → ℕ → Bool
+supplies a i j = ltb 0 (a i j)
+
+-- a supplier with a later slot
 unfoldable pub lateSupplier : (ℕ → ℕ → ℕ) → List ℕ → ℕ → ℕ → Bool
-lateSupplier a row i j = ltb 0 (a i j) && ltb (slotOf row i) (slotOf row j)
+lateSupplier a row i j = supplies a i j && ltb (slotOf row i) (slotOf row j)
 
 -- y_i: train i revisits where at least one supplier has a later slot, (4)
 unfoldable pub revisiting : ℕ → (ℕ → ℕ → ℕ) → List ℕ → ℕ → Bool

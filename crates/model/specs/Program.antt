@@ -5,9 +5,9 @@ use mathlib.Core.Path.{_≡_}
 use mathlib.Core.Bool.{not, cond}
 use mathlib.Core.List.{List}
 use Prim.Native.Nat.{ℕ, suc, _+_, _-_, _*_, _≤_, _<_}
-use lib.Dec.{ltb, eqb}
+use lib.Dec.{eqb}
 use Rattle.fold.specs.Fold.{bit, sum}
-use Rattle.model.specs.Model.{Yard, received, firstSlot, lastSlot, slotOf, revisiting}
+use Rattle.model.specs.Model.{Yard, received, firstSlot, lastSlot, slotOf, supplies, revisiting}
 
 -- ---- the program
 
@@ -41,7 +41,7 @@ pub record Feasible (y : Yard) (x : ℕ → ℕ → ℕ) (v : ℕ → ℕ) (z : 
 unfoldable pub objective : Yard → (ℕ → ℕ) → (ℕ → ℕ → ℕ) → ℕ
 objective y v z =
     y .revisit * sum (y .trains) v
-    + y .split * sum (y .trains) λ i. sum (y .trains) λ j. cond (ltb 0 (received y i j)) (z i j * received y i j) 0
+    + y .split * sum (y .trains) λ i. sum (y .trains) λ j. cond (supplies (received y) i j) (z i j * received y i j) 0
 
 -- ---- a row as a point of the program
 
