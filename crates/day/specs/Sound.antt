@@ -1,11 +1,11 @@
 -- Sound days: the limits of document 01's day file, as data, and the test that a day record keeps them. (01: a record is sound if
 -- some day file reads to it; unused positions hold 0.) Stated over plain data and any limits.
 -- Assumes nothing.
-use mathlib.Core.Bool.{Bool, not, cond, _&&_}
-use mathlib.Core.List.{List}
+use mathlib.Core.Bool.{Bool, true, false, not, cond, _&&_}
+use mathlib.Core.List.{List, [], _∷_}
 use Prim.Native.Nat.{ℕ, suc, _+_, _-_, _*_}
 use lib.Dec.{ltb, leb, eqb}
-use lib.ListN.{getD}
+use lib.ListN.{length, getD}
 use Rattle.fold.specs.Fold.{each}
 use Rattle.model.specs.Model.{Yard, cell}
 use Rattle.day.specs.declared.Day.{Day}
@@ -30,25 +30,55 @@ yard d = record {
   boxes = d .boxes;
 }
 
--- ---- the first section: trains, tracks, slots and the two weights
-unfoldable pub headSound : Limits → ℕ → ℕ → ℕ → ℕ → ℕ → Bool
-headSound l trains tracks slots revisit split =
-    leb 1 trains && leb trains (l .trains)
-    && leb 1 tracks && leb tracks (l .tracks)
-    && leb 1 slots && leb slots (l .slots)
-    && leb revisit (l .weight) && leb split (l .weight)
+-- ---- the fields of a row and their ranges, 01's table of the day file
 
--- ---- the second section
+pub record Range : Type 0 where
+  pub least : ℕ
+  pub greatest : ℕ
+
+abbrev pub range : ℕ → ℕ → Range
+range least greatest = record { least = least; greatest = greatest }
+
+abbrev pub between : Range → ℕ → Bool
+between r x = leb (r .least) x && leb x (r .greatest)
+
+-- the values of a row lie in their ranges
+unfoldable pub within : List Range → List ℕ → Bool
+within [] values = true
+within (r ∷ ranges) [] = false
+within (r ∷ ranges) (v ∷ values) = between r v && within ranges values
+
+-- `trains tracks slots revisit split`
+unfoldable pub headRanges : Limits → List Range
+headRanges l = range 1 (l .trains) ∷ range 1 (l .tracks) ∷ range 1 (l .slots) ∷ range 0 (l .weight) ∷ range 0 (l .weight) ∷ []
+
+-- `train first last`, of a day of T slots
+unfoldable pub trainRanges : Limits → ℕ → List Range
+trainRanges l slots = range 1 (l .number) ∷ range 1 slots ∷ range 1 slots ∷ []
+
+-- `to from boxes`
+unfoldable pub moveRanges : Limits → List Range
+moveRanges l = range 1 (l .number) ∷ range 1 (l .number) ∷ range 1 (l .boxes) ∷ []
+
+-- ---- a record's rows of the first two sections
+
+abbrev pub headRow : Yard → List ℕ
+headRow y = y .trains ∷ y .tracks ∷ y .slots ∷ y .revisit ∷ y .split ∷ []
+
+abbrev pub trainRow : List ℕ → List ℕ → List ℕ → ℕ → List ℕ
+trainRow numbers first last i = getD numbers i 0 ∷ getD first i 0 ∷ getD last i 0 ∷ []
+
+-- ---- the positions
 
 -- the train number before position i, 0 before the first
 unfoldable pub numberBefore : List ℕ → ℕ → ℕ
 numberBefore numbers i = cond (eqb i 0) 0 (getD numbers (i - 1) 0)
 
--- position i of a train: its number rises and keeps its limit, 1 ≤ first ≤ last ≤ T
+-- position i of a train: its fields lie in their ranges, its number rises, its window is in order
 unfoldable pub trainSound : Limits → ℕ → List ℕ → List ℕ → List ℕ → ℕ → Bool
 trainSound l slots numbers first last i =
-    ltb (numberBefore numbers i) (getD numbers i 0) && leb (getD numbers i 0) (l .number)
-    && leb 1 (getD first i 0) && leb (getD first i 0) (getD last i 0) && leb (getD last i 0) slots
+    within (trainRanges l slots) (trainRow numbers first last i)
+    && ltb (numberBefore numbers i) (getD numbers i 0) && leb (getD first i 0) (getD last i 0)
 
 -- position i holds no train
 unfoldable pub unused : List ℕ → List ℕ → List ℕ → ℕ → Bool
@@ -58,7 +88,7 @@ unfoldable pub positionSound : Limits → ℕ → ℕ → List ℕ → List ℕ 
 positionSound l n slots numbers first last i =
     cond (ltb i n) (trainSound l slots numbers first last i) (unused numbers first last i)
 
--- ---- the third section
+-- ---- the boxes
 
 -- boxes pass between two different trains, and keep their limit
 unfoldable pub pairSound : Limits → ℕ → ℕ → List ℕ → ℕ → ℕ → Bool
@@ -70,8 +100,15 @@ receiverSound l n width boxes i = each (l .trains) (pairSound l n width boxes i)
 
 -- ---- the record
 
+-- the record has a place for each train that the limits allow, and a table of boxes between them
+unfoldable pub shaped : Limits → Yard → Bool
+shaped l y =
+    eqb (y .width) (l .trains) && eqb (length (y .numbers)) (l .trains) && eqb (length (y .first)) (l .trains)
+    && eqb (length (y .last)) (l .trains) && eqb (length (y .boxes)) (l .trains * l .trains)
+
 unfoldable pub sound : Limits → Yard → Bool
 sound l y =
-    headSound l (y .trains) (y .tracks) (y .slots) (y .revisit) (y .split)
+    shaped l y
+    && within (headRanges l) (headRow y)
     && each (l .trains) (positionSound l (y .trains) (y .slots) (y .numbers) (y .first) (y .last))
     && each (l .trains) (receiverSound l (y .trains) (y .width) (y .boxes))

@@ -3,12 +3,13 @@
 // Proved: `is_sound` is the definition `sound` of specs/Sound.antt for every record, sound or not. A record's parts are tested by
 // functions over slices, a width and limits, so that records of other sizes use them too. Assumes nothing.
 ghost use mathlib.Core.Path.{_≡_};
+ghost use mathlib.Core.List.{[], _∷_};
 ghost use Prim.Native.Nat.{_≤_, _<_, _*_};
 ghost use lib.ListN.{length};
 ghost use Rattle.fold.specs.Fold.{each};
 ghost use Rattle.model.specs.Model.{cell};
 ghost use Rattle.model.specs.Cells.{InTable};
-ghost use Rattle.day.specs.Sound.{dayLimits, yard, headSound, numberBefore, trainSound, unused, positionSound, pairSound, receiverSound, sound};
+ghost use Rattle.day.specs.Sound.{dayLimits, yard, range, between, within, headRanges, trainRanges, moveRanges, headRow, numberBefore, trainSound, unused, positionSound, pairSound, receiverSound, sound};
 
 // A day. Positions are counted from 0; A(i, j), the boxes that train i receives from train j, stands at i * 12 + j of `boxes`.
 // Unused positions hold 0.
@@ -66,17 +67,56 @@ pub fn day_limits() -> Limits
     }
 }
 
-fn head_sound(l: Limits, trains: usize, tracks: u32, slots: u8, revisit: u32, split: u32) -> bool
-    ensures { λ r. ⌜ r ≡ headSound l trains tracks slots revisit split ⌝ }
+// A byte and a word, widened.
+pub fn wide8(x: u8) -> u64
+    ensures { λ r. ⌜ (r ≡ x) × (r ≤ 255) ⌝ }
 {
-    (1 <= trains)
-        & (trains <= l.trains)
-        & (1 <= tracks)
-        & (tracks <= l.tracks)
-        & (1 <= slots)
-        & (slots <= l.slots)
-        & (revisit <= l.weight)
-        & (split <= l.weight)
+    x as u64
+}
+
+pub fn wide32(x: u32) -> u64
+    ensures { λ r. ⌜ (r ≡ x) × (r ≤ 4294967295) ⌝ }
+{
+    x as u64
+}
+
+// Whether a value lies in a range.
+fn in_range(least: u64, greatest: u64, x: u64) -> bool
+    ensures { λ r. ⌜ r ≡ between (range least greatest) x ⌝ }
+{
+    (least <= x) & (x <= greatest)
+}
+
+// Whether the fields of a row lie in their ranges: the first section's row, a train's, a move's.
+pub fn head_within(
+    l: Limits,
+    trains: u64,
+    tracks: u64,
+    slots: u64,
+    revisit: u64,
+    split: u64,
+) -> bool
+    ensures { λ r. ⌜ r ≡ within (headRanges l) (trains ∷ tracks ∷ slots ∷ revisit ∷ split ∷ []) ⌝ }
+{
+    in_range(1, l.trains as u64, trains)
+        & in_range(1, l.tracks as u64, tracks)
+        & in_range(1, l.slots as u64, slots)
+        & in_range(0, l.weight as u64, revisit)
+        & in_range(0, l.weight as u64, split)
+}
+
+pub fn train_within(l: Limits, slots: u64, number: u64, first: u64, last: u64) -> bool
+    ensures { λ r. ⌜ r ≡ within (trainRanges l slots) (number ∷ first ∷ last ∷ []) ⌝ }
+{
+    in_range(1, l.number as u64, number) & in_range(1, slots, first) & in_range(1, slots, last)
+}
+
+pub fn move_within(l: Limits, to: u64, from: u64, boxes: u64) -> bool
+    ensures { λ r. ⌜ r ≡ within (moveRanges l) (to ∷ from ∷ boxes ∷ []) ⌝ }
+{
+    in_range(1, l.number as u64, to)
+        & in_range(1, l.number as u64, from)
+        & in_range(1, l.boxes as u64, boxes)
 }
 
 // The train number before position i, 0 before the first.
@@ -91,16 +131,20 @@ fn number_before(numbers: &[u32], i: usize) -> u32
     numbers[k]
 }
 
-// Position i of a train: its number rises and keeps its limit, its window lies in the slots.
+// Position i of a train: its fields lie in their ranges, its number rises, its window is in order.
 fn train_sound(l: Limits, slots: u8, numbers: &[u32], first: &[u8], last: &[u8], i: usize) -> bool
     requires { ⌜ (i < length (now numbers)) × (i < length (now first)) × (i < length (now last)) ⌝ }
     ensures { λ r. ⌜ r ≡ trainSound l slots (now (numbers .entry)) (now (first .entry)) (now (last .entry)) i ⌝ }
 {
-    (number_before(numbers, i) < numbers[i])
-        & (numbers[i] <= l.number)
-        & (1 <= first[i])
+    train_within(
+        l,
+        wide8(slots),
+        wide32(numbers[i]),
+        wide8(first[i]),
+        wide8(last[i]),
+    )
+        & (number_before(numbers, i) < numbers[i])
         & (first[i] <= last[i])
-        & (last[i] <= slots)
 }
 
 fn is_unused(numbers: &[u32], first: &[u8], last: &[u8], i: usize) -> bool
@@ -197,16 +241,39 @@ fn boxes_sound(l: Limits, n: usize, width: usize, boxes: &[u8]) -> bool
     true
 }
 
+// The three parts of a record's test, each over the arrays that it needs.
+fn is_head_sound(day: Day) -> bool
+    ensures { λ r. ⌜ r ≡ within (headRanges dayLimits) (headRow (yard day)) ⌝ }
+{
+    head_within(
+        day_limits(),
+        day.trains as u64,
+        day.tracks as u64,
+        day.slots as u64,
+        day.revisit as u64,
+        day.split as u64,
+    )
+}
+
+fn are_positions_sound(day: Day) -> bool
+    ensures { λ r. ⌜ r ≡ each 12 (positionSound dayLimits (day .trains) (day .slots) (day .numbers) (day .first) (day .last)) ⌝ }
+{
+    let numbers = day.numbers;
+    let first = day.first;
+    let last = day.last;
+    positions_sound(day_limits(), day.trains, day.slots, &numbers, &first, &last)
+}
+
+fn are_boxes_sound(day: Day) -> bool
+    ensures { λ r. ⌜ r ≡ each 12 (receiverSound dayLimits (day .trains) 12 (day .boxes)) ⌝ }
+{
+    let boxes = day.boxes;
+    boxes_sound(day_limits(), day.trains, 12, &boxes)
+}
+
 // Whether a record is sound: some day file reads to it. For every record, sound or not.
 pub fn is_sound(day: Day) -> bool
     ensures { λ r. ⌜ r ≡ sound dayLimits (yard day) ⌝ }
 {
-    let l = day_limits();
-    let numbers = day.numbers;
-    let first = day.first;
-    let last = day.last;
-    let boxes = day.boxes;
-    head_sound(l, day.trains, day.tracks, day.slots, day.revisit, day.split)
-        & positions_sound(l, day.trains, day.slots, &numbers, &first, &last)
-        & boxes_sound(l, day.trains, 12, &boxes)
+    is_head_sound(day) & are_positions_sound(day) & are_boxes_sound(day)
 }

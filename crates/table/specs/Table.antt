@@ -21,7 +21,7 @@ use Rattle.model.specs.Order.{byKey, pick}
 use Rattle.model.specs.BestOf.{bestOf, is-best, is-none}
 use Rattle.model.specs.Overbooked.{Interval, firstOverbooked, first-says, SaysFirst, overbookedFrom, overbookedFirst, overbookedLast}
 use Rattle.day.specs.Answer.{Answer, gives, refuses}
-use Rattle.day.specs.Sound.{dayLimits, yard, sound, headSound, numberBefore, trainSound, unused, positionSound, pairSound, receiverSound}
+use Rattle.day.specs.Sound.{dayLimits, yard, within, headRanges, trainRanges, shaped, sound, numberBefore, trainSound, unused, positionSound, pairSound, receiverSound}
 use Rattle.day.specs.declared.Day.{Day}
 use Rattle.valuing.specs.Valuing.{valued, strays, overfull}
 use Rattle.table.specs.Days.{move, boxTable, padded, dayOf, openDay, paperDay, numbered}
@@ -152,7 +152,7 @@ allPass (l ∷ ls) = passes l && allPass ls
 
 -- the one computation
 computed : T (allPass table)
-unfolding allPass passes sameOutcome sameAnswer sameList isRow isNone isInterval table sum count each Fold.some lowest mask lateSupplier revisiting revisits splitBoxes splitsTo splits weighed cost inSlots inWindow load roomy allowed slotMask lower precedes bound exceeds overbooked allRows byKey pick bestOf overbookedFrom overbookedFirst overbookedLast firstOverbooked headSound numberBefore trainSound unused positionSound pairSound receiverSound sound strays overfull valued
+unfolding allPass passes sameOutcome sameAnswer sameList isRow isNone isInterval table sum count each Fold.some lowest mask lateSupplier revisiting revisits splitBoxes splitsTo splits weighed cost inSlots inWindow load roomy allowed slotMask lower precedes bound exceeds overbooked allRows byKey pick bestOf overbookedFrom overbookedFirst overbookedLast firstOverbooked within headRanges trainRanges shaped numberBefore trainSound unused positionSound pairSound receiverSound sound strays overfull valued
 computed = tt
 
 -- ---- from the test to the statement

@@ -72,14 +72,8 @@ fn split_boxes(boxes: &[u8], width: usize, slots: &[u8], i: usize, j: usize) -> 
     if slots[i] == slots[j] {
         0
     } else {
-        wide(day::cell_at(boxes, width, i, j))
+        day::wide8(day::cell_at(boxes, width, i, j))
     }
-}
-
-fn wide(x: u8) -> u64
-    ensures { λ r. ⌜ (r ≡ x) × (r ≤ 255) ⌝ }
-{
-    x as u64
 }
 
 // The split moves of the boxes that train i receives.
@@ -105,18 +99,12 @@ pub fn count_splits(boxes: &[u8], width: usize, slots: &[u8], n: usize) -> Split
     Splits(total)
 }
 
-fn wide_weight(w: u32) -> u64
-    ensures { λ r. ⌜ (r ≡ w) × (r ≤ 4294967295) ⌝ }
-{
-    w as u64
-}
-
 // The cost, equation (1).
 fn weigh(revisit: u32, split: u32, revisits: Revisits, splits: Splits) -> u64
     requires { ⌜ (revisits .0 ≤ 64) × (splits .0 ≤ 1044480) ⌝ }
     ensures { λ r. ⌜ r ≡ weighed revisit split (revisits .0) (splits .0) ⌝ }
 {
-    wide_weight(revisit) * revisits.0 + wide_weight(split) * splits.0
+    day::wide32(revisit) * revisits.0 + day::wide32(split) * splits.0
 }
 
 // The trains of slot t as one mask (01: the set number of the slot).

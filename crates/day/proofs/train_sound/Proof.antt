@@ -6,6 +6,33 @@ use borrow.Author.Needs.{needs}
 use Rattle.day.proofs.train_sound.Statement.{statement}
 use Rattle.day.proofs.train_sound.Tie as tie
 
+wide8-requires : tie.Need-wide8-requires
+wide8-requires c κs = search needs
+
+mul-wide32 : tie.Need-mul-wide32
+mul-wide32 c = search needs
+
+shared-slice-read-wide32 : tie.Need-shared-slice-read-wide32
+shared-slice-read-wide32 c = search needs
+
+wide32-requires : tie.Need-wide32-requires
+wide32-requires c κs = search needs
+
+shared-slice-read-wide8 : tie.Need-shared-slice-read-wide8
+shared-slice-read-wide8 c = search needs
+
+wide8-requires-2 : tie.Need-wide8-requires-2
+wide8-requires-2 c κs = search needs
+
+shared-slice-read-wide8-2 : tie.Need-shared-slice-read-wide8-2
+shared-slice-read-wide8-2 c = search needs
+
+wide8-requires-3 : tie.Need-wide8-requires-3
+wide8-requires-3 c κs = search needs
+
+train-within-requires : tie.Need-train-within-requires
+train-within-requires c κs = search needs
+
 number-before-requires : tie.Need-number-before-requires
 number-before-requires c κs = search needs
 
@@ -15,39 +42,32 @@ mul-result c = search needs
 shared-slice-read-result : tie.Need-shared-slice-read-result
 shared-slice-read-result c = search needs
 
-mul-result-2 : tie.Need-mul-result-2
-mul-result-2 c = search needs
-
 shared-slice-read-result-2 : tie.Need-shared-slice-read-result-2
 shared-slice-read-result-2 c = search needs
 
 shared-slice-read-result-3 : tie.Need-shared-slice-read-result-3
 shared-slice-read-result-3 c = search needs
 
-shared-slice-read-result-4 : tie.Need-shared-slice-read-result-4
-shared-slice-read-result-4 c = search needs
-
-shared-slice-read-result-5 : tie.Need-shared-slice-read-result-5
-shared-slice-read-result-5 c = search needs
-
-shared-slice-read-result-6 : tie.Need-shared-slice-read-result-6
-shared-slice-read-result-6 c = search needs
-
 returns : tie.Need-returns
 unfolding trainSound
-returns c = rw (c .before .before .before .before .before .before .before .number-before .ensures)
+returns c = rw (c .before .before .before .before .train-within .ensures, c .before .before .before .before .before .before .before .before .before .before .before .wide8 .ensures .0, c .before .before .before .before .before .before .before .before .before .wide32 .ensures .0, c .before .before .before .before .before .before .before .wide82 .ensures .0, c .before .before .before .before .before .wide83 .ensures .0, c .before .before .before .number-before .ensures)
 
 pub train-sound-spec : {M : Type 1} → statement M
 train-sound-spec =
     tie.close
     (tie.spec
+    wide8-requires
+    mul-wide32
+    shared-slice-read-wide32
+    wide32-requires
+    shared-slice-read-wide8
+    wide8-requires-2
+    shared-slice-read-wide8-2
+    wide8-requires-3
+    train-within-requires
     number-before-requires
     mul-result
     shared-slice-read-result
-    mul-result-2
     shared-slice-read-result-2
     shared-slice-read-result-3
-    shared-slice-read-result-4
-    shared-slice-read-result-5
-    shared-slice-read-result-6
     returns)

@@ -16,8 +16,8 @@ shared-slice-read-if1-2 c = c .before .before .before .before .pre .from
 cell-at-requires : tie.Need-cell-at-requires
 cell-at-requires c κs = c .before .before .before .before .before .pre .table
 
-wide-requires : tie.Need-wide-requires
-wide-requires c κs = search needs
+wide8-requires : tie.Need-wide8-requires
+wide8-requires c κs = search needs
 
 returns : tie.Need-returns
 unfolding splitBoxes
@@ -25,7 +25,7 @@ returns c = (rw (eq-eqb _ _ (c .if1 .taken)), search needs)
 
 returns-2 : tie.Need-returns-2
 unfolding splitBoxes
-returns-2 c = (rw (ne-eqb _ _ (c .before .before .if1 .left)) (c .wide .ensures .0 ∙ c .before .cell-at .ensures), c .wide .ensures .1)
+returns-2 c = (rw (ne-eqb _ _ (c .before .before .if1 .left)) (c .wide8 .ensures .0 ∙ c .before .cell-at .ensures), c .wide8 .ensures .1)
 
 pub split-boxes-spec : {M : Type 1} → statement M
 split-boxes-spec =
@@ -34,6 +34,6 @@ split-boxes-spec =
     shared-slice-read-if1
     shared-slice-read-if1-2
     cell-at-requires
-    wide-requires
+    wide8-requires
     returns
     returns-2)
