@@ -1,0 +1,3 @@
+pub mod Parsed
+pub mod Decimal
+pub mod Laws

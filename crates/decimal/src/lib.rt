@@ -1,0 +1,1 @@
+// Values in decimal, read and written at a place of a text.
