@@ -3,7 +3,7 @@
 -- Assumes nothing.
 use mathlib.Core.Bool.{Bool, true, false, not, cond, _&&_}
 use mathlib.Core.List.{List, [], _∷_}
-use Prim.Native.Nat.{ℕ, suc, _+_, _-_, _*_}
+use Prim.Native.Nat.{ℕ, zero, suc, _*_}
 use lib.Dec.{ltb, leb, eqb}
 use lib.ListN.{length, getD}
 use Rattle.fold.specs.Fold.{each}
@@ -72,7 +72,8 @@ trainRow numbers first last i = getD numbers i 0 ∷ getD first i 0 ∷ getD las
 
 -- the train number before position i, 0 before the first
 unfoldable pub numberBefore : List ℕ → ℕ → ℕ
-numberBefore numbers i = cond (eqb i 0) 0 (getD numbers (i - 1) 0)
+numberBefore numbers zero = 0
+numberBefore numbers (suc i) = getD numbers i 0
 
 -- position i of a train: its fields lie in their ranges, its number rises, its window is in order
 unfoldable pub trainSound : Limits → ℕ → List ℕ → List ℕ → List ℕ → ℕ → Bool

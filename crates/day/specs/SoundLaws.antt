@@ -1,14 +1,15 @@
 -- What the test of a sound day says, as statements that callers use.
 -- Assumes nothing.
-use mathlib.Core.Path.{_≡_, subst}
+use mathlib.Core.Path.{_≡_, refl, ap, subst}
 use mathlib.Core.Bool.{Bool, true, cond, _&&_}
 use mathlib.Core.List.{List, [], _∷_}
-use Prim.Native.Nat.{ℕ, _*_, _≤_, _<_}
+use Prim.Native.Nat.{ℕ, zero, suc, _-_, _*_, _≤_, _<_}
 use native.Mathlib.Nat.{le-trans}
+use native.Mathlib.Omega.{arith}
 use lib.Dec.{T, ltb, leb, eqb, leb→le, ltb→lt, eqb→eq}
 use lib.ListN.{length, getD}
-use borrow.Author.Tests.{lt-ltb}
-use Rattle.fold.specs.Test.{both-of}
+use borrow.Author.Tests.{lt-ltb, eq-eqb}
+use Rattle.fold.specs.Test.{of-true, both, both-of}
 use Rattle.fold.specs.Fold.{each, each-at}
 use Rattle.model.specs.Model.{Yard, firstSlot, lastSlot}
 use Rattle.day.specs.Sound.{Range, range, between, within, headRanges, trainRanges, headRow, trainRow, numberBefore, trainSound, unused, positionSound, receiverSound, shaped, sound}
@@ -33,6 +34,17 @@ within-is (r ∷ ranges) (v ∷ values) t =
     let (lo, hi) = both-of (leb (r .least) v) (leb v (r .greatest)) a in
     ((leb→le (r .least) v lo, leb→le v (r .greatest) hi), within-is ranges values b)
 
+-- the number before a later position, as the code reads it
+pub number-before : (numbers : List ℕ) (i : ℕ) → (i ≡ 0 → ⊥) → getD numbers (i - 1) 0 ≡ numberBefore numbers i
+unfolding numberBefore
+number-before numbers zero h = absurd (h refl)
+number-before numbers (suc i) h = ap (λ k. getD numbers k 0) (omega arith)
+
+pub number-first : (numbers : List ℕ) (i : ℕ) → i ≡ 0 → 0 ≡ numberBefore numbers i
+unfolding numberBefore
+number-first numbers zero h = refl
+number-first numbers (suc i) h = absurd (omega arith)
+
 -- ---- a sound day
 
 pub record Sound (l : Limits) (y : Yard) : Type 0 where
@@ -41,6 +53,13 @@ pub record Sound (l : Limits) (y : Yard) : Type 0 where
   pub slots : (1 ≤ y .slots) × (y .slots ≤ l .slots)
   pub weights : (y .revisit ≤ l .weight) × (y .split ≤ l .weight)
   pub windows : (i : ℕ) → i < y .trains → (1 ≤ firstSlot y i) × (firstSlot y i ≤ lastSlot y i) × (lastSlot y i ≤ y .slots)
+
+pub record Shaped (l : Limits) (y : Yard) : Type 0 where
+  pub width : y .width ≡ l .trains
+  pub numbers : length (y .numbers) ≡ l .trains
+  pub first : length (y .first) ≡ l .trains
+  pub last : length (y .last) ≡ l .trains
+  pub boxes : length (y .boxes) ≡ l .trains * l .trains
 
 module _ (l : Limits) (y : Yard) where
   positions : Bool
@@ -60,6 +79,39 @@ module _ (l : Limits) (y : Yard) where
       let (c, d) = both-of (shaped l y && within (headRanges l) (headRow y)) positions a in
       let (e, f) = both-of (shaped l y) (within (headRanges l) (headRow y)) c in
       (e, f, d, b)
+
+  pub tests-sound : T (shaped l y) → T (within (headRanges l) (headRow y))
+      → T (each (l .trains) (positionSound l (y .trains) (y .slots) (y .numbers) (y .first) (y .last)))
+      → T (each (l .trains) (receiverSound l (y .trains) (y .width) (y .boxes))) → T (sound l y)
+  unfolding sound
+  tests-sound a b c d =
+      both (shaped l y && within (headRanges l) (headRow y) && each (l .trains) (positionSound l (y .trains) (y .slots) (y .numbers) (y .first) (y .last))) (each (l .trains) (receiverSound l (y .trains) (y .width) (y .boxes)))
+      (both (shaped l y && within (headRanges l) (headRow y)) (each (l .trains) (positionSound l (y .trains) (y .slots) (y .numbers) (y .first) (y .last)))
+      (both (shaped l y) (within (headRanges l) (headRow y)) a b) c) d
+
+  pub shaped-is : T (shaped l y) → Shaped l y
+  unfolding shaped
+  shaped-is t =
+      let w = eqb (y .width) (l .trains) in
+      let n = eqb (length (y .numbers)) (l .trains) in
+      let e = eqb (length (y .first)) (l .trains) in
+      let s = eqb (length (y .last)) (l .trains) in
+      let (a, boxes) = both-of (w && n && e && s) (eqb (length (y .boxes)) (l .trains * l .trains)) t in
+      let (b, last) = both-of (w && n && e) s a in
+      let (c, first) = both-of (w && n) e b in
+      let (width, numbers) = both-of w n c in
+      record { width = eqb→eq _ _ width; numbers = eqb→eq _ _ numbers; first = eqb→eq _ _ first; last = eqb→eq _ _ last; boxes = eqb→eq _ _ boxes }
+
+  pub is-shaped : Shaped l y → T (shaped l y)
+  unfolding shaped
+  is-shaped h =
+      let w = eqb (y .width) (l .trains) in
+      let n = eqb (length (y .numbers)) (l .trains) in
+      let e = eqb (length (y .first)) (l .trains) in
+      let s = eqb (length (y .last)) (l .trains) in
+      both (w && n && e && s) (eqb (length (y .boxes)) (l .trains * l .trains))
+      (both (w && n && e) s (both (w && n) e (both w n (of-true (eq-eqb _ _ (h .width))) (of-true (eq-eqb _ _ (h .numbers)))) (of-true (eq-eqb _ _ (h .first)))) (of-true (eq-eqb _ _ (h .last))))
+      (of-true (eq-eqb _ _ (h .boxes)))
 
   -- position i of a train
   pub train-tests : (i : ℕ) → i < y .trains → T (positionSound l (y .trains) (y .slots) (y .numbers) (y .first) (y .last) i)

@@ -1,2 +1,4 @@
 pub mod Lines
 pub mod Laws
+pub mod Reader
+pub mod ReaderLaws

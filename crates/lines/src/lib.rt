@@ -1,1 +1,199 @@
-// The lines of a file.
+// The lines of a file: one reader for names lines, rows of values and the end of the text, and the writing of names lines and rows.
+//
+// Proved: `read_line` answers what `found` of specs/Reader.antt finds at the place; each `put_..` stores the text of its line and
+// nothing else. Assumes nothing.
+ghost use mathlib.Core.Path.{_≡_};
+ghost use mathlib.Core.List.{[], _∷_};
+ghost use Prim.Native.Nat.{_+_, _≤_};
+ghost use lib.ListN.{length, drop};
+ghost use Rattle.decimal.specs.Place.{Put, Answers as Read};
+ghost use Rattle.lines.specs.Lines.{names, field, row, fieldText, rowText};
+ghost use Rattle.lines.specs.Reader.{namesFound, rowFound, found, Answers};
+use day::Refusal;
+use decimal::Field;
+
+// What the caller is due to find: a names line, a row of three or of five values, or a row of three or the end.
+pub enum Due {
+    NamesLine,
+    RowOfThree,
+    RowOfFive,
+    RowOrEnd,
+}
+
+// What was found: the kind of the line, its fields and the place after it, or the refusal with its line.
+pub enum Line {
+    Names {
+        next: usize,
+    },
+    Row {
+        a: u32,
+        b: u32,
+        c: u32,
+        d: u32,
+        e: u32,
+        next: usize,
+    },
+    End,
+    Refused(Refusal),
+}
+
+// The place itself, or the end of the text where it lies past that: the same text follows.
+fn place_in(text: &[u8], at: usize) -> usize
+    ensures { λ r. ⌜ (drop r (now (text .entry)) ≡ drop at (now (text .entry))) × (r ≤ length (now (text .entry))) ⌝ }
+{
+    if text.len() < at {
+        return text.len();
+    }
+    at
+}
+
+// Reads a names line.
+fn read_names(text: &[u8], at: usize, line: usize, word: &[u8]) -> Line
+    ensures { λ r. ⌜ Answers (now (text .entry)) (namesFound line (names (now (word .entry)) (drop at (now (text .entry))))) r ⌝ }
+{
+    let mut next = place_in(text, at);
+    let mut i = 0;
+    while i < word.len() {
+        if text.len() <= next {
+            return Line::Refused(Refusal::NamesLine(line));
+        }
+        if text[next] != word[i] {
+            return Line::Refused(Refusal::NamesLine(line));
+        }
+        next += 1;
+        i += 1;
+    }
+    Line::Names { next }
+}
+
+// Reads a value and the byte that ends it.
+fn read_field(text: &[u8], at: usize, end: u8) -> Field
+    ensures { λ r. ⌜ Read (now (text .entry)) (field end (drop at (now (text .entry)))) r ⌝ }
+{
+    let Field::Is { value, next } = decimal::read_value(text, at) else {
+        return Field::Bad;
+    };
+    if text.len() <= next {
+        return Field::Bad;
+    }
+    if text[next] != end {
+        return Field::Bad;
+    }
+    Field::Is {
+        value,
+        next: next + 1,
+    }
+}
+
+// Reads a row of three values.
+fn read_three(text: &[u8], at: usize, line: usize) -> Line
+    ensures { λ r. ⌜ Answers (now (text .entry)) (rowFound line (row 2 (drop at (now (text .entry))))) r ⌝ }
+{
+    let Field::Is { value: a, next: p } = read_field(text, at, 32) else {
+        return Line::Refused(Refusal::RowForm(line));
+    };
+    let Field::Is { value: b, next: q } = read_field(text, p, 32) else {
+        return Line::Refused(Refusal::RowForm(line));
+    };
+    let Field::Is { value: c, next } = read_field(text, q, 10) else {
+        return Line::Refused(Refusal::RowForm(line));
+    };
+    Line::Row {
+        a,
+        b,
+        c,
+        d: 0,
+        e: 0,
+        next,
+    }
+}
+
+// Reads a row of five values.
+fn read_five(text: &[u8], at: usize, line: usize) -> Line
+    ensures { λ r. ⌜ Answers (now (text .entry)) (rowFound line (row 4 (drop at (now (text .entry))))) r ⌝ }
+{
+    let Field::Is { value: a, next: p } = read_field(text, at, 32) else {
+        return Line::Refused(Refusal::RowForm(line));
+    };
+    let Field::Is { value: b, next: q } = read_field(text, p, 32) else {
+        return Line::Refused(Refusal::RowForm(line));
+    };
+    let Field::Is { value: c, next: x } = read_field(text, q, 32) else {
+        return Line::Refused(Refusal::RowForm(line));
+    };
+    let Field::Is { value: d, next: y } = read_field(text, x, 32) else {
+        return Line::Refused(Refusal::RowForm(line));
+    };
+    let Field::Is { value: e, next } = read_field(text, y, 10) else {
+        return Line::Refused(Refusal::RowForm(line));
+    };
+    Line::Row {
+        a,
+        b,
+        c,
+        d,
+        e,
+        next,
+    }
+}
+
+// Reads the line at a place. `word` is the names line that is due, `line` the number of the line.
+pub fn read_line(text: &[u8], at: usize, line: usize, due: Due, word: &[u8]) -> Line
+    ensures { λ r. ⌜ Answers (now (text .entry)) (found due (now (word .entry)) line (drop at (now (text .entry)))) r ⌝ }
+{
+    match due {
+        Due::NamesLine => read_names(text, at, line, word),
+        Due::RowOfThree => read_three(text, at, line),
+        Due::RowOfFive => read_five(text, at, line),
+        Due::RowOrEnd => {
+            if text.len() <= at {
+                Line::End
+            } else {
+                read_three(text, at, line)
+            }
+        }
+    }
+}
+
+// Writes bytes from a place on, and gives the place after them.
+pub fn put_bytes(out: &mut [u8], at: usize, word: &[u8]) -> usize
+    requires { ⌜ at + length (now word) ≤ length (now out) ⌝ }
+    ensures { λ r. ⌜ Put (now (out .entry)) (now (out .exit)) at r (now (word .entry)) ⌝ }
+{
+    let mut i = 0;
+    while i < word.len() {
+        out[at + i] = word[i];
+        i += 1;
+    }
+    at + word.len()
+}
+
+// Writes a value and the byte that ends it.
+fn put_field(out: &mut [u8], at: usize, v: u64, end: u8) -> usize
+    requires { ⌜ at + length (fieldText v end) ≤ length (now out) ⌝ }
+    ensures { λ r. ⌜ Put (now (out .entry)) (now (out .exit)) at r (fieldText v end) ⌝ }
+{
+    let p = decimal::put_value(out, at, v);
+    out[p] = end;
+    p + 1
+}
+
+// Writes a row of three values.
+pub fn put_three(out: &mut [u8], at: usize, a: u64, b: u64, c: u64) -> usize
+    requires { ⌜ at + length (rowText (a ∷ b ∷ c ∷ [])) ≤ length (now out) ⌝ }
+    ensures { λ r. ⌜ Put (now (out .entry)) (now (out .exit)) at r (rowText (a ∷ b ∷ c ∷ [])) ⌝ }
+{
+    let p = put_field(out, at, a, 32);
+    let q = put_field(out, p, b, 32);
+    put_field(out, q, c, 10)
+}
+
+// Writes a row of five values.
+pub fn put_five(out: &mut [u8], at: usize, a: u64, b: u64, c: u64, d: u64, e: u64) -> usize
+    requires { ⌜ at + length (rowText (a ∷ b ∷ c ∷ d ∷ e ∷ [])) ≤ length (now out) ⌝ }
+    ensures { λ r. ⌜ Put (now (out .entry)) (now (out .exit)) at r (rowText (a ∷ b ∷ c ∷ d ∷ e ∷ [])) ⌝ }
+{
+    let p = put_field(out, at, a, 32);
+    let q = put_field(out, p, b, 32);
+    put_three(out, q, c, d, e)
+}

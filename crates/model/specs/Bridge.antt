@@ -184,7 +184,7 @@ made y x = listed (y .trains) (slotIn (y .slots) x)
 
 made-slot : (y : Yard) (x : ℕ → ℕ → ℕ) (i : ℕ) → i < y .trains → slotIn (y .slots) x i ≡ slotOf (made y x) i
 unfolding made
-made-slot y x i h = sym (listed-at (y .trains) (slotIn (y .slots) x) i h)
+made-slot y x i h = sym (listed-at (y .trains) (slotIn (y .slots) x) 0 i h)
 
 module _ (y : Yard) (x : ℕ → ℕ → ℕ) (v : ℕ → ℕ) (z : ℕ → ℕ → ℕ) (f : Feasible y x v z) where
   -- its slots are those of x, in 1..T

@@ -1,15 +1,12 @@
 -- `day::number_before` meets its contract. By the two cases of the index.
 -- Assumes nothing.
-use mathlib.Core.Path.{refl}
-use borrow.Author.Tests.{eq-eqb, ne-eqb}
-use Rattle.day.specs.Sound.{numberBefore}
+use Rattle.day.specs.SoundLaws.{number-before, number-first}
 use borrow.Author.Needs.{needs}
 use Rattle.day.proofs.number_before.Statement.{statement}
 use Rattle.day.proofs.number_before.Tie as tie
 
 returns : tie.Need-returns
-unfolding numberBefore
-returns c = rw (eq-eqb (c .before .args .i) 0 (c .if1 .taken))
+returns c = number-first _ _ (c .if1 .taken)
 
 sub-k : tie.Need-sub-k
 sub-k c = search needs
@@ -21,8 +18,7 @@ shared-slice-read-result : tie.Need-shared-slice-read-result
 shared-slice-read-result c = search needs
 
 returns-2 : tie.Need-returns-2
-unfolding numberBefore
-returns-2 c = rw (ne-eqb (c .before .before .args .i) 0 (c .before .if1 .left))
+returns-2 c = number-before _ _ (c .before .if1 .left)
 
 pub number-before-spec : {M : Type 1} → statement M
 number-before-spec =

@@ -1,0 +1,160 @@
+-- What a text reads to: the day, or the refusal with its line (document 01, "The day file"). Lines are read downwards, and the first
+-- one that breaks a rule decides; in one line its form (1 or 2), then the limits (3), then the other conditions in number order.
+-- Over any limits, so that longer days have the same form.
+-- Assumes nothing.
+use mathlib.Core.Bool.{Bool, not, cond, _&&_, _||_}
+use mathlib.Core.List.{List, [], _∷_, _++_, map}
+use Prim.Native.Nat.{ℕ, zero, suc, _+_, _-_, _*_}
+use lib.Dec.{leb, ltb, eqb}
+use lib.ListN.{length, getD, set, replicate}
+use Rattle.fold.specs.Fold.{lowest}
+use Rattle.model.specs.Model.{Yard}
+use Rattle.day.specs.Answer.{Answer, gives, refuses, Check, must, checked}
+use Rattle.day.specs.Sound.{within, headRanges, trainRanges, moveRanges}
+use Rattle.day.specs.declared.Limits.{Limits}
+use Rattle.decimal.specs.Parsed.{Parsed, fail, got}
+use Rattle.lines.specs.Lines.{ascii, names, row}
+
+-- ---- the three names lines
+
+unfoldable pub headNames : List ℕ
+headNames = ascii "trains tracks slots revisit split\n"
+
+unfoldable pub trainNames : List ℕ
+trainNames = ascii "train first last\n"
+
+unfoldable pub moveNames : List ℕ
+moveNames = ascii "to from boxes\n"
+
+-- ---- the fields of a row of three: `train first last` and `to from boxes`
+
+abbrev pub field1 : List ℕ → ℕ
+field1 row = getD row 0 0
+
+abbrev pub field2 : List ℕ → ℕ
+field2 row = getD row 1 0
+
+abbrev pub field3 : List ℕ → ℕ
+field3 row = getD row 2 0
+
+-- ---- the conditions of a row beside its form, with the refusals in their order
+
+abbrev pub headChecks : Limits → List ℕ → List Check
+headChecks l head = must (within (headRanges l) head) 3 (2 ∷ []) ∷ []
+
+-- T slots; `before` is the train number of the row before, 0 at the first
+abbrev pub trainChecks : Limits → ℕ → ℕ → ℕ → List ℕ → List Check
+trainChecks l slots before line train =
+    must (within (trainRanges l slots) train) 3 (line ∷ [])
+    ∷ must (ltb before (field1 train)) 4 (line ∷ [])
+    ∷ must (leb (field2 train) (field3 train)) 5 (line ∷ [])
+    ∷ []
+
+-- the position, counted from 0, of a train number among those listed; their count where it is not there
+unfoldable pub position : List ℕ → ℕ → ℕ
+position numbers x = lowest (length numbers) λ i. eqb (getD numbers i 0) x
+
+abbrev pub isListed : List ℕ → ℕ → Bool
+isListed numbers x = ltb (position numbers x) (length numbers)
+
+-- the pair (to, from) of a row comes after that of the row before, by to and then by from
+abbrev pub pairAfter : List ℕ → List ℕ → Bool
+pairAfter before move = ltb (field1 before) (field1 move) || (eqb (field1 before) (field1 move) && ltb (field2 before) (field2 move))
+
+-- `before` is the row before, zeros at the first
+abbrev pub moveChecks : Limits → List ℕ → List ℕ → ℕ → List ℕ → List Check
+moveChecks l numbers before line move =
+    must (within (moveRanges l) move) 3 (line ∷ [])
+    ∷ must (isListed numbers (field1 move) && isListed numbers (field2 move) && not (eqb (field1 move) (field2 move))) 6 (line ∷ [])
+    ∷ must (pairAfter before move) 7 (line ∷ [])
+    ∷ []
+
+-- ---- reading on after a line, or refusing its form; reading on after a section
+
+abbrev pub onLine : {X Z : Type 0} → ℕ → ℕ → Parsed X → (X → List ℕ → Answer Z) → Answer Z
+onLine form line fail f = refuses form (line ∷ [])
+onLine form line (got x s) f = f x s
+
+abbrev pub onward : {X Z : Type 0} → Answer X → (X → Answer Z) → Answer Z
+onward (gives x) f = f x
+onward (refuses k carried) f = refuses k carried
+
+-- ---- the sections of rows
+
+-- rows, and the text after them
+pub record Rows : Type 0 where
+  pub rows : List (List ℕ)
+  pub rest : List ℕ
+
+abbrev pub addRow : List ℕ → Answer Rows → Answer Rows
+addRow r (gives x) = gives (record { rows = r ∷ x .rows; rest = x .rest })
+addRow r (refuses k carried) = refuses k carried
+
+-- the rows of n trains
+unfoldable pub readTrains : Limits → ℕ → ℕ → ℕ → ℕ → List ℕ → Answer Rows
+readTrains l slots zero before line s = gives (record { rows = []; rest = s })
+readTrains l slots (suc n) before line s =
+    onLine 2 line (row 2 s) λ train r.
+    checked (trainChecks l slots before line train) (addRow train (readTrains l slots n (field1 train) (suc line) r))
+
+-- the rows of moves up to the end of the text; a text has at most as many rows as k, its length
+unfoldable pub readMoves : Limits → List ℕ → ℕ → List ℕ → ℕ → List ℕ → Answer Rows
+readMoves l numbers zero before line [] = gives (record { rows = []; rest = [] })
+readMoves l numbers zero before line (c ∷ s) = refuses 2 (line ∷ [])
+readMoves l numbers (suc k) before line [] = gives (record { rows = []; rest = [] })
+readMoves l numbers (suc k) before line (c ∷ s) =
+    onLine 2 line (row 2 (c ∷ s)) λ move r.
+    checked (moveChecks l numbers before line move) (addRow move (readMoves l numbers k move (suc line) r))
+
+-- ---- the file
+
+-- the rows of an accepted file
+pub record File : Type 0 where
+  pub head : List ℕ
+  pub trains : List (List ℕ)
+  pub moves : List (List ℕ)
+
+abbrev pub numbersOf : List (List ℕ) → List ℕ
+numbersOf trains = map field1 trains
+
+unfoldable pub readFile : Limits → List ℕ → Answer File
+readFile l text =
+    onLine 1 1 (names headNames text) λ u s.
+    onLine 2 2 (row 4 s) λ head s.
+    checked (headChecks l head)
+    (onLine 1 3 (names trainNames s) λ u s.
+    onward (readTrains l (getD head 2 0) (getD head 0 0) 0 4 s) λ trains.
+    onLine 1 (4 + getD head 0 0) (names moveNames (trains .rest)) λ u s.
+    onward (readMoves l (numbersOf (trains .rows)) (length s) (0 ∷ 0 ∷ 0 ∷ []) (5 + getD head 0 0) s) λ moves.
+    gives (record { head = head; trains = trains .rows; moves = moves .rows }))
+
+-- ---- the day of a file
+
+abbrev pub padded : ℕ → List ℕ → List ℕ
+padded width l = l ++ replicate (width - length l) 0
+
+-- the place of a move's pair in the table of boxes
+abbrev pub placeOf : List ℕ → ℕ → List ℕ → ℕ
+placeOf numbers width move = position numbers (field1 move) * width + position numbers (field2 move)
+
+-- the moves put into a table
+unfoldable pub stored : List ℕ → ℕ → List ℕ → List (List ℕ) → List ℕ
+stored numbers width table [] = table
+stored numbers width table (move ∷ moves) = stored numbers width (set table (placeOf numbers width move) (field3 move)) moves
+
+unfoldable pub dayOf : Limits → File → Yard
+dayOf l f = record {
+  trains = getD (f .head) 0 0;
+  tracks = getD (f .head) 1 0;
+  slots = getD (f .head) 2 0;
+  revisit = getD (f .head) 3 0;
+  split = getD (f .head) 4 0;
+  numbers = padded (l .trains) (numbersOf (f .trains));
+  first = padded (l .trains) (map field2 (f .trains));
+  last = padded (l .trains) (map field3 (f .trains));
+  width = l .trains;
+  boxes = stored (numbersOf (f .trains)) (l .trains) (replicate (l .trains * l .trains) 0) (f .moves);
+}
+
+unfoldable pub readDay : Limits → List ℕ → Answer Yard
+readDay l text = onward (readFile l text) λ f. gives (dayOf l f)

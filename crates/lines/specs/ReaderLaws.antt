@@ -1,0 +1,69 @@
+-- The line reader at a place of a text: what the byte there does; and the text of a row, value by value.
+-- Assumes nothing.
+use mathlib.Core.Path.{_≡_}
+use mathlib.Core.List.{List, [], _∷_}
+use Prim.Native.Nat.{ℕ, _+_, _≤_, _<_}
+use native.Mathlib.Nat.{add-assoc, le-antisymm}
+use native.Mathlib.Numerals.{add-one}
+use lib.ListN.{length, getD, set, take, drop, length-append}
+use lib.Seq.{take-suc, take-length}
+use borrow.Author.Tests.{eq-eqb, ne-eqb}
+use Rattle.decimal.specs.Parsed.{fail, got, andThen}
+use Rattle.decimal.specs.Decimal.{digits}
+use Rattle.decimal.specs.Place.{Put}
+use Rattle.decimal.specs.PlaceLaws.{at-end, here, put-text, put-byte}
+use Rattle.lines.specs.Lines.{byte, names, row, fieldText, rowText}
+use Rattle.lines.specs.Reader.{rowFound, found}
+use Rattle.lines.specs.declared.Due.the-variants.{RowOrEnd}
+
+-- ---- the byte at a place
+
+module _ (t : List ℕ) (p e : ℕ) where
+  pub byte-end : length t ≤ p → byte e (drop p t) ≡ fail
+  unfolding byte
+  byte-end h = rw (at-end t p h)
+
+  pub byte-other : p < length t → (getD t p 0 ≡ e → ⊥) → byte e (drop p t) ≡ fail
+  unfolding byte
+  byte-other h n = rw (here t p h, ne-eqb (getD t p 0) e n)
+
+  pub byte-is : p < length t → getD t p 0 ≡ e → byte e (drop p t) ≡ got tt (drop (p + 1) t)
+  unfolding byte
+  byte-is h n = rw (here t p h, eq-eqb (getD t p 0) e n)
+
+-- ---- a names line from its byte i on
+
+pub names-all : (word : List ℕ) (i : ℕ) (s : List ℕ) → length word ≤ i → names (drop i word) s ≡ got tt s
+unfolding names
+names-all word i s h = rw (at-end word i h)
+
+pub names-next : (word : List ℕ) (i : ℕ) (s : List ℕ) → i < length word → names (drop i word) s ≡ andThen (byte (getD word i 0) s) (λ u r. names (drop (i + 1) word) r)
+unfolding names
+names-next word i s h = rw (here word i h)
+
+-- ---- where the text goes on a row is due
+
+pub row-due : (word : List ℕ) (line : ℕ) (t : List ℕ) (p : ℕ) → p < length t → found RowOrEnd word line (drop p t) ≡ rowFound line (row 2 (drop p t))
+row-due word line t p h = rw (here t p h)
+
+-- ---- the text of a row
+
+pub field-length : (v e : ℕ) → length (fieldText v e) ≡ length (digits v) + 1
+field-length v e = length-append (digits v) (e ∷ [])
+
+pub row-length : (v w : ℕ) (vs : List ℕ) → length (rowText (v ∷ w ∷ vs)) ≡ length (fieldText v 32) + length (rowText (w ∷ vs))
+unfolding rowText
+row-length v w vs = length-append (fieldText v 32) (rowText (w ∷ vs))
+
+pub put-row : {l m n : List ℕ} {i j k : ℕ} (v w : ℕ) (vs : List ℕ) → Put l m i j (fieldText v 32) → Put m n j k (rowText (w ∷ vs)) → Put l n i k (rowText (v ∷ w ∷ vs))
+unfolding rowText
+put-row v w vs p q = put-text p q
+
+-- ---- bytes stored one after the other
+
+module _ {l m : List ℕ} {p : ℕ} (word : List ℕ) (i : ℕ) where
+  pub put-next : i < length word → Put l m p (p + i) (take i word) → Put l (set m (p + i) (getD word i 0)) p (p + (i + 1)) (take (i + 1) word)
+  put-next h b = rw (← add-assoc p i 1, add-one i, take-suc word i 0 h) (put-byte (getD word i 0) b)
+
+  pub put-all : i ≤ length word → length word ≤ i → Put l m p (p + i) (take i word) → Put l m p (p + length word) word
+  put-all h g b = rw (le-antisymm h g, take-length word) at b
