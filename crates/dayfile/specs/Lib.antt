@@ -6,3 +6,4 @@ pub mod Places
 pub mod Moves
 pub mod Fine
 pub mod RoundTrip
+pub mod Calls
