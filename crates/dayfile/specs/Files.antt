@@ -18,7 +18,7 @@ use Rattle.decimal.specs.Parsed.{Parsed, fail, got, no-fail}
 use Rattle.decimal.specs.Decimal.{value}
 use Rattle.lines.specs.Lines.{field, names, row, rowText}
 use Rattle.lines.specs.Laws.{names-written, names-read, Small, row-written, RowRead, row-read}
-use Rattle.dayfile.specs.Reading.{headNames, trainNames, moveNames, field1, headChecks, trainChecks, moveChecks, onLine, onward, Rows, addRow, readTrains, readMoves, File, numbersOf, readFile}
+use Rattle.dayfile.specs.Reading.{headNames, trainNames, moveNames, field1, headChecks, trainChecks, moveChecks, onward, orRefuse, readNames, RowRest, readRow, Rows, addRow, readTrains, readMoves, File, numbersOf, readFile}
 use Rattle.dayfile.specs.Writing.{rowsText, fileText}
 
 -- ---- rows that keep the rules
@@ -60,52 +60,81 @@ small (r ∷ ranges) (v ∷ values) e s w = (le-trans (w .0 .1) (s .0), small ra
 
 -- ---- a reading that gives something, taken apart
 
-line-gives : {X Z W : Type 0} (form line : ℕ) (p : Parsed X) (f : X → List ℕ → Answer Z) {z : Z}
-    → onLine form line p f ≡ gives z → ((x : X) (s : List ℕ) → p ≡ got x s → f x s ≡ gives z → W) → W
-line-gives form line fail f e k = absurd (let z : _≡_ {A = ℕ} 0 1 = cc in omega arith)
-line-gives form line (got x s) f e k = k x s refl e
-
 pub onward-gives : {X Z W : Type 0} (a : Answer X) (f : X → Answer Z) {z : Z} → onward a f ≡ gives z → ((x : X) → a ≡ gives x → f x ≡ gives z → W) → W
 onward-gives (gives x) f e k = k x refl e
 onward-gives (refuses n carried) f e k = absurd (let z : _≡_ {A = ℕ} 0 1 = cc in omega arith)
 
-added-gives : {W : Type 0} (r : List ℕ) (a : Answer Rows) {x : Rows} → addRow r a ≡ gives x → ((z : Rows) → a ≡ gives z → record { rows = r ∷ z .rows; rest = z .rest } ≡ x → W) → W
-added-gives r (gives z) e k = k z refl cc
-added-gives r (refuses n carried) e k = absurd (let z : _≡_ {A = ℕ} 0 1 = cc in omega arith)
+refuse-gives : {X Z W : Type 0} (form line : ℕ) (p : Parsed X) (f : X → List ℕ → Answer Z) {z : Z}
+    → orRefuse form line p f ≡ gives z → ((x : X) (s : List ℕ) → p ≡ got x s → f x s ≡ gives z → W) → W
+refuse-gives form line fail f e k = absurd (let z : _≡_ {A = ℕ} 0 1 = cc in omega arith)
+refuse-gives form line (got x s) f e k = k x s refl e
+
+-- ---- one line
+
+names-line : (word : List ℕ) (line : ℕ) (s : List ℕ) → readNames word line (word ++ s) ≡ gives s
+names-line word line s = ap (λ (p : Parsed (Unit {0})). orRefuse 1 line p λ u r. gives r) (names-written word s)
+
+names-line-read : (word : List ℕ) (line : ℕ) (s r : List ℕ) → readNames word line s ≡ gives r → s ≡ word ++ r
+names-line-read word line s r h =
+    refuse-gives 1 line (names word s) _ h λ u q e g.
+    let same : q ≡ r = cc in
+    names-read word s u q e ∙ ap (λ (x : List ℕ). word ++ x) same
+
+row-line : (k line : ℕ) (checks : List ℕ → List Check) (r s : List ℕ) → length r ≡ suc k → Small r → AllHold (checks r)
+    → readRow k line checks (rowText r ++ s) ≡ gives (record { row = r; rest = s })
+row-line k line checks r s e w h =
+    ap (λ (p : Parsed (List ℕ)). orRefuse 2 line p λ r q. checked (checks r) (gives (record { row = r; rest = q }))) (row-written k r s e w)
+    ∙ checked-holds (checks r) (gives (record { row = r; rest = s })) h
+
+pub record RowLine (k : ℕ) (checks : List ℕ → List Check) (s : List ℕ) (x : RowRest) : Type 0 where
+  pub text : s ≡ rowText (x .row) ++ x .rest
+  pub count : length (x .row) ≡ suc k
+  pub holds : AllHold (checks (x .row))
+
+row-line-read : (k line : ℕ) (checks : List ℕ → List Check) (s : List ℕ) (x : RowRest) → readRow k line checks s ≡ gives x → RowLine k checks s x
+row-line-read k line checks s x h =
+    refuse-gives 2 line (row k s) _ h λ r q e g.
+    let (holds, m) = checked-gives (checks r) (gives (record { row = r; rest = q })) x g in
+    let same : record { row = r; rest = q } ≡ x = cc in
+    let w = row-read k s r q e in
+    rw (← same) (record { text = w .text; count = w .count; holds = holds })
 
 -- ---- the trains
 
 module _ (l : Limits) (short : Short l) (slots : ℕ) (few : slots ≤ 99999) where
-  pub trains-written : (rows : List (List ℕ)) (before line : ℕ) (s : List ℕ) → FineTrains l slots before rows
+  trains-written : (rows : List (List ℕ)) (before line : ℕ) (s : List ℕ) → FineTrains l slots before rows
       → readTrains l slots (length rows) before line (rowsText rows ++ s) ≡ gives (record { rows = rows; rest = s })
   unfolding readTrains rowsText trainRanges
   trains-written [] before line s f = refl
   trains-written (r ∷ rows) before line s f =
       let w = small (trainRanges l slots) r (f .0) (short .number, (few, (few, tt))) (within-is (trainRanges l slots) r (f .1 .0)) in
-      rw (append-assoc (rowText r) (rowsText rows) s, row-written 2 r (rowsText rows ++ s) (f .0) w)
-      (checked-holds (trainChecks l slots before line r) _ (f .1) ∙ ap (addRow r) (trains-written rows (field1 r) (suc line) s (f .2)))
+      rw (
+        append-assoc (rowText r) (rowsText rows) s,
+        row-line 2 line (trainChecks l slots before line) r (rowsText rows ++ s) (f .0) w (f .1),
+        trains-written rows (field1 r) (suc line) s (f .2),
+      )
 
-pub record TrainsRead (l : Limits) (slots n before : ℕ) (s : List ℕ) (x : Rows) : Type 0 where
-  pub count : length (x .rows) ≡ n
-  pub text : s ≡ rowsText (x .rows) ++ x .rest
-  pub fine : FineTrains l slots before (x .rows)
+record TrainsRead (l : Limits) (slots n before : ℕ) (s : List ℕ) (x : Rows) : Type 0 where
+  count : length (x .rows) ≡ n
+  text : s ≡ rowsText (x .rows) ++ x .rest
+  fine : FineTrains l slots before (x .rows)
 
-pub trains-read : (l : Limits) (slots n before line : ℕ) (s : List ℕ) (x : Rows) → readTrains l slots n before line s ≡ gives x → TrainsRead l slots n before s x
+trains-read : (l : Limits) (slots n before line : ℕ) (s : List ℕ) (x : Rows) → readTrains l slots n before line s ≡ gives x → TrainsRead l slots n before s x
 unfolding readTrains rowsText
 trains-read l slots zero before line s x h =
     let e : record { rows = []; rest = s } ≡ x = cc in
     rw (← e) (record { count = refl; text = refl; fine = tt })
 trains-read l slots (suc n) before line s x h =
-    line-gives 2 line (row 2 s) _ h λ r q e h.
-    let (holds, g) = checked-gives (trainChecks l slots before line r) _ x h in
-    added-gives r (readTrains l slots n (field1 r) (suc line) q) g λ z k m.
-    let t = trains-read l slots n (field1 r) (suc line) q z k in
-    let w = row-read 2 s r q e in
-    rw (← m)
+    onward-gives (readRow 2 line (trainChecks l slots before line) s) _ h λ r e h.
+    onward-gives (readTrains l slots n (field1 (r .row)) (suc line) (r .rest)) _ h λ z k g.
+    let w = row-line-read 2 line (trainChecks l slots before line) s r e in
+    let t = trains-read l slots n (field1 (r .row)) (suc line) (r .rest) z k in
+    let same : record { rows = r .row ∷ z .rows; rest = z .rest } ≡ x = cc in
+    rw (← same)
     (record {
       count = ap suc (t .count);
-      text = w .text ∙ ap (λ (u : List ℕ). rowText r ++ u) (t .text) ∙ sym (append-assoc (rowText r) (rowsText (z .rows)) (z .rest));
-      fine = (w .count, holds, t .fine);
+      text = w .text ∙ ap (λ (u : List ℕ). rowText (r .row) ++ u) (t .text) ∙ sym (append-assoc (rowText (r .row)) (rowsText (z .rows)) (z .rest));
+      fine = (w .count, w .holds, t .fine);
     })
 
 -- ---- the moves
@@ -116,10 +145,9 @@ row-longer [] e = absurd (omega arith)
 row-longer (a ∷ []) e = absurd (omega arith)
 row-longer (a ∷ b ∷ r) e = simp length-append (omega arith)
 
-no-row : (k : ℕ) (r s : List ℕ) → row k [] ≡ got r s → ⊥
+no-row : (line : ℕ) (checks : List ℕ → List Check) (x : RowRest) → readRow 2 line checks [] ≡ gives x → ⊥
 unfolding row field value
-no-row zero r s e = no-fail e
-no-row (suc k) r s e = no-fail e
+no-row line checks x e = let z : _≡_ {A = ℕ} 0 1 = cc in omega arith
 
 module _ (l : Limits) (numbers : List ℕ) where
   -- at the end of the text, and at a row
@@ -128,13 +156,13 @@ module _ (l : Limits) (numbers : List ℕ) where
   moves-end zero before line = refl
   moves-end (suc k) before line = refl
 
-  pub moves-row : (k : ℕ) (before : List ℕ) (line : ℕ) (s r q : List ℕ) → row 2 s ≡ got r q
-      → readMoves l numbers (suc k) before line s ≡ checked (moveChecks l numbers before line r) (addRow r (readMoves l numbers k r (suc line) q))
+  pub moves-row : (k : ℕ) (before : List ℕ) (line : ℕ) (s : List ℕ) (x : RowRest) → readRow 2 line (moveChecks l numbers before line) s ≡ gives x
+      → readMoves l numbers (suc k) before line s ≡ addRow (x .row) (readMoves l numbers k (x .row) (suc line) (x .rest))
   unfolding readMoves
-  moves-row k before line [] r q e = absurd (no-row 2 r q e)
-  moves-row k before line (c ∷ s) r q e = rw e
+  moves-row k before line [] x e = absurd (no-row line (moveChecks l numbers before line) x e)
+  moves-row k before line (c ∷ s) x e = rw e
 
-  pub moves-written : Short l → (k : ℕ) (rows : List (List ℕ)) (before : List ℕ) (line : ℕ) → length (rowsText rows) ≤ k → FineMoves l numbers before rows
+  moves-written : Short l → (k : ℕ) (rows : List (List ℕ)) (before : List ℕ) (line : ℕ) → length (rowsText rows) ≤ k → FineMoves l numbers before rows
       → readMoves l numbers k before line (rowsText rows) ≡ gives (record { rows = rows; rest = [] })
   unfolding rowsText moveRanges
   moves-written short zero [] before line h f = moves-end zero before line
@@ -143,13 +171,12 @@ module _ (l : Limits) (numbers : List ℕ) where
       absurd (omega (arith, row-longer r (f .0), length-append (rowText r) (rowsText rows)))
   moves-written short (suc k) (r ∷ rows) before line h f =
       let w = small (moveRanges l) r (f .0) (short .number, (short .number, (short .boxes, tt))) (within-is (moveRanges l) r (f .1 .0)) in
-      moves-row k before line (rowText r ++ rowsText rows) r (rowsText rows) (row-written 2 r (rowsText rows) (f .0) w)
-      ∙ checked-holds (moveChecks l numbers before line r) _ (f .1)
+      moves-row k before line (rowText r ++ rowsText rows) (record { row = r; rest = rowsText rows }) (row-line 2 line (moveChecks l numbers before line) r (rowsText rows) (f .0) w (f .1))
       ∙ ap (addRow r) (moves-written short k rows r (suc line) (omega (arith, row-longer r (f .0), length-append (rowText r) (rowsText rows))) (f .2))
 
-pub record MovesRead (l : Limits) (numbers before s : List ℕ) (x : Rows) : Type 0 where
-  pub text : s ≡ rowsText (x .rows)
-  pub fine : FineMoves l numbers before (x .rows)
+record MovesRead (l : Limits) (numbers before s : List ℕ) (x : Rows) : Type 0 where
+  text : s ≡ rowsText (x .rows)
+  fine : FineMoves l numbers before (x .rows)
 
 moves-done : (l : Limits) (numbers before : List ℕ) (x : Rows) → gives (record { rows = []; rest = [] }) ≡ gives x → MovesRead l numbers before [] x
 unfolding rowsText
@@ -157,19 +184,19 @@ moves-done l numbers before x h =
     let e : record { rows = []; rest = [] } ≡ x = cc in
     rw (← e) (record { text = refl; fine = tt })
 
-pub moves-read : (l : Limits) (numbers : List ℕ) (k : ℕ) (before : List ℕ) (line : ℕ) (s : List ℕ) (x : Rows)
+moves-read : (l : Limits) (numbers : List ℕ) (k : ℕ) (before : List ℕ) (line : ℕ) (s : List ℕ) (x : Rows)
     → readMoves l numbers k before line s ≡ gives x → MovesRead l numbers before s x
 unfolding readMoves rowsText
 moves-read l numbers zero before line [] x h = moves-done l numbers before x h
 moves-read l numbers zero before line (c ∷ s) x h = absurd (let z : _≡_ {A = ℕ} 0 1 = cc in omega arith)
 moves-read l numbers (suc k) before line [] x h = moves-done l numbers before x h
 moves-read l numbers (suc k) before line (c ∷ s) x h =
-    line-gives 2 line (row 2 (c ∷ s)) _ h λ r q e h.
-    let (holds, g) = checked-gives (moveChecks l numbers before line r) _ x h in
-    added-gives r (readMoves l numbers k r (suc line) q) g λ z j m.
-    let t = moves-read l numbers k r (suc line) q z j in
-    let w = row-read 2 (c ∷ s) r q e in
-    rw (← m) (record { text = w .text ∙ ap (λ (u : List ℕ). rowText r ++ u) (t .text); fine = (w .count, holds, t .fine) })
+    onward-gives (readRow 2 line (moveChecks l numbers before line) (c ∷ s)) _ h λ r e h.
+    onward-gives (readMoves l numbers k (r .row) (suc line) (r .rest)) _ h λ z j g.
+    let w = row-line-read 2 line (moveChecks l numbers before line) (c ∷ s) r e in
+    let t = moves-read l numbers k (r .row) (suc line) (r .rest) z j in
+    let same : record { rows = r .row ∷ z .rows; rest = z .rest } ≡ x = cc in
+    rw (← same) (record { text = w .text ∙ ap (λ (u : List ℕ). rowText (r .row) ++ u) (t .text); fine = (w .count, w .holds, t .fine) })
 
 -- ---- the file
 
@@ -199,10 +226,14 @@ file-written l f short fine =
     let t = trains-written l short (getD (f .head) 2 0) (slots-few l short (f .head) (fine .fields) (fine .head)) (f .trains) 0 4 s3 (fine .trains) in
     let trains : readTrains l (getD (f .head) 2 0) n 0 4 s2 ≡ gives (record { rows = f .trains; rest = s3 }) = rw (fine .count) at t in
     simp append-assoc
-    (rw
-    (names-written headNames (rowText (f .head) ++ s1), row-written 4 (f .head) s1 (fine .fields) (head-small l short (f .head) (fine .fields) (fine .head)))
-    (checked-holds (headChecks l (f .head)) _ (fine .head, tt)
-    ∙ rw (names-written trainNames s2, trains, names-written moveNames s4, moves-written l (numbersOf (f .trains)) short (length s4) (f .moves) (0 ∷ 0 ∷ 0 ∷ []) (5 + n) (omega arith) (fine .moves))))
+    (rw (
+      names-line headNames 1 (rowText (f .head) ++ s1),
+      row-line 4 2 (headChecks l) (f .head) s1 (fine .fields) (head-small l short (f .head) (fine .fields) (fine .head)) (fine .head, tt),
+      names-line trainNames 3 s2,
+      trains,
+      names-line moveNames (4 + n) s4,
+      moves-written l (numbersOf (f .trains)) short (length s4) (f .moves) (0 ∷ 0 ∷ 0 ∷ []) (5 + n) (omega arith) (fine .moves),
+    ))
 
 pub record FileRead (l : Limits) (t : List ℕ) (f : File) : Type 0 where
   pub fine : Fine l f
@@ -211,22 +242,21 @@ pub record FileRead (l : Limits) (t : List ℕ) (f : File) : Type 0 where
 pub file-read : (l : Limits) (text : List ℕ) (f : File) → readFile l text ≡ gives f → FileRead l text f
 unfolding readFile fileText
 file-read l text f h =
-    line-gives 1 1 (names headNames text) _ h λ u s1 e1 h.
-    line-gives 2 2 (row 4 s1) _ h λ head s2 e2 h.
-    let (holds, h) = checked-gives (headChecks l head) _ f h in
-    line-gives 1 3 (names trainNames s2) _ h λ v s3 e3 h.
-    onward-gives (readTrains l (getD head 2 0) (getD head 0 0) 0 4 s3) _ h λ trains e4 h.
-    line-gives 1 (4 + getD head 0 0) (names moveNames (trains .rest)) _ h λ w s5 e5 h.
-    onward-gives (readMoves l (numbersOf (trains .rows)) (length s5) (0 ∷ 0 ∷ 0 ∷ []) (5 + getD head 0 0) s5) _ h λ moves e6 h.
-    let r = row-read 4 s1 head s2 e2 in
-    let t = trains-read l (getD head 2 0) (getD head 0 0) 0 4 s3 trains e4 in
-    let m = moves-read l (numbersOf (trains .rows)) (length s5) (0 ∷ 0 ∷ 0 ∷ []) (5 + getD head 0 0) s5 moves e6 in
-    let same : record { head = head; trains = trains .rows; moves = moves .rows } ≡ f = cc in
+    onward-gives (readNames headNames 1 text) _ h λ s1 e1 h.
+    onward-gives (readRow 4 2 (headChecks l) s1) _ h λ head e2 h.
+    onward-gives (readNames trainNames 3 (head .rest)) _ h λ s3 e3 h.
+    onward-gives (readTrains l (getD (head .row) 2 0) (getD (head .row) 0 0) 0 4 s3) _ h λ trains e4 h.
+    onward-gives (readNames moveNames (4 + getD (head .row) 0 0) (trains .rest)) _ h λ s5 e5 h.
+    onward-gives (readMoves l (numbersOf (trains .rows)) (length s5) (0 ∷ 0 ∷ 0 ∷ []) (5 + getD (head .row) 0 0) s5) _ h λ moves e6 h.
+    let r = row-line-read 4 2 (headChecks l) s1 head e2 in
+    let t = trains-read l (getD (head .row) 2 0) (getD (head .row) 0 0) 0 4 s3 trains e4 in
+    let m = moves-read l (numbersOf (trains .rows)) (length s5) (0 ∷ 0 ∷ 0 ∷ []) (5 + getD (head .row) 0 0) s5 moves e6 in
+    let same : record { head = head .row; trains = trains .rows; moves = moves .rows } ≡ f = cc in
     rw (← same)
     (record {
-      fine = record { fields = r .count; head = holds .0; count = t .count; trains = t .fine; moves = m .fine };
+      fine = record { fields = r .count; head = r .holds .0; count = t .count; trains = t .fine; moves = m .fine };
       text =
-          names-read headNames text u s1 e1
-          ∙ rw (r .text, names-read trainNames s2 v s3 e3, t .text, names-read moveNames (trains .rest) w s5 e5, m .text)
+          names-line-read headNames 1 text s1 e1
+          ∙ rw (r .text, names-line-read trainNames 3 (head .rest) s3 e3, t .text, names-line-read moveNames (4 + getD (head .row) 0 0) (trains .rest) s5 e5, m .text)
           (simp append-assoc);
     })

@@ -69,15 +69,28 @@ moveChecks l numbers before line move =
     ∷ must (pairAfter before move) 7 (line ∷ [])
     ∷ []
 
--- ---- reading on after a line, or refusing its form; reading on after a section
-
-abbrev pub onLine : {X Z : Type 0} → ℕ → ℕ → Parsed X → (X → List ℕ → Answer Z) → Answer Z
-onLine form line fail f = refuses form (line ∷ [])
-onLine form line (got x s) f = f x s
+-- ---- one line, and reading on
 
 abbrev pub onward : {X Z : Type 0} → Answer X → (X → Answer Z) → Answer Z
 onward (gives x) f = f x
 onward (refuses k carried) f = refuses k carried
+
+-- what was read, or the refusal of the line's form
+abbrev pub orRefuse : {X Z : Type 0} → ℕ → ℕ → Parsed X → (X → List ℕ → Answer Z) → Answer Z
+orRefuse form line fail f = refuses form (line ∷ [])
+orRefuse form line (got x s) f = f x s
+
+-- a names line: the text after it
+abbrev pub readNames : List ℕ → ℕ → List ℕ → Answer (List ℕ)
+readNames word line s = orRefuse 1 line (names word s) λ u r. gives r
+
+-- a row of k + 1 values and the text after it
+pub record RowRest : Type 0 where
+  pub row : List ℕ
+  pub rest : List ℕ
+
+abbrev pub readRow : ℕ → ℕ → (List ℕ → List Check) → List ℕ → Answer RowRest
+readRow k line checks s = orRefuse 2 line (row k s) λ r q. checked (checks r) (gives (record { row = r; rest = q }))
 
 -- ---- the sections of rows
 
@@ -87,15 +100,14 @@ pub record Rows : Type 0 where
   pub rest : List ℕ
 
 abbrev pub addRow : List ℕ → Answer Rows → Answer Rows
-addRow r (gives x) = gives (record { rows = r ∷ x .rows; rest = x .rest })
-addRow r (refuses k carried) = refuses k carried
+addRow r a = onward a λ x. gives (record { rows = r ∷ x .rows; rest = x .rest })
 
 -- the rows of n trains
 unfoldable pub readTrains : Limits → ℕ → ℕ → ℕ → ℕ → List ℕ → Answer Rows
 readTrains l slots zero before line s = gives (record { rows = []; rest = s })
 readTrains l slots (suc n) before line s =
-    onLine 2 line (row 2 s) λ train r.
-    checked (trainChecks l slots before line train) (addRow train (readTrains l slots n (field1 train) (suc line) r))
+    onward (readRow 2 line (trainChecks l slots before line) s) λ train.
+    addRow (train .row) (readTrains l slots n (field1 (train .row)) (suc line) (train .rest))
 
 -- the rows of moves up to the end of the text; a text has at most as many rows as k, its length
 unfoldable pub readMoves : Limits → List ℕ → ℕ → List ℕ → ℕ → List ℕ → Answer Rows
@@ -103,8 +115,8 @@ readMoves l numbers zero before line [] = gives (record { rows = []; rest = [] }
 readMoves l numbers zero before line (c ∷ s) = refuses 2 (line ∷ [])
 readMoves l numbers (suc k) before line [] = gives (record { rows = []; rest = [] })
 readMoves l numbers (suc k) before line (c ∷ s) =
-    onLine 2 line (row 2 (c ∷ s)) λ move r.
-    checked (moveChecks l numbers before line move) (addRow move (readMoves l numbers k move (suc line) r))
+    onward (readRow 2 line (moveChecks l numbers before line) (c ∷ s)) λ move.
+    addRow (move .row) (readMoves l numbers k (move .row) (suc line) (move .rest))
 
 -- ---- the file
 
@@ -119,14 +131,13 @@ numbersOf trains = map field1 trains
 
 unfoldable pub readFile : Limits → List ℕ → Answer File
 readFile l text =
-    onLine 1 1 (names headNames text) λ u s.
-    onLine 2 2 (row 4 s) λ head s.
-    checked (headChecks l head)
-    (onLine 1 3 (names trainNames s) λ u s.
-    onward (readTrains l (getD head 2 0) (getD head 0 0) 0 4 s) λ trains.
-    onLine 1 (4 + getD head 0 0) (names moveNames (trains .rest)) λ u s.
-    onward (readMoves l (numbersOf (trains .rows)) (length s) (0 ∷ 0 ∷ 0 ∷ []) (5 + getD head 0 0) s) λ moves.
-    gives (record { head = head; trains = trains .rows; moves = moves .rows }))
+    onward (readNames headNames 1 text) λ s.
+    onward (readRow 4 2 (headChecks l) s) λ head.
+    onward (readNames trainNames 3 (head .rest)) λ s.
+    onward (readTrains l (getD (head .row) 2 0) (getD (head .row) 0 0) 0 4 s) λ trains.
+    onward (readNames moveNames (4 + getD (head .row) 0 0) (trains .rest)) λ s.
+    onward (readMoves l (numbersOf (trains .rows)) (length s) (0 ∷ 0 ∷ 0 ∷ []) (5 + getD (head .row) 0 0) s) λ moves.
+    gives (record { head = head .row; trains = trains .rows; moves = moves .rows })
 
 -- ---- the day of a file
 
