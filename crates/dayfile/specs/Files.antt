@@ -91,7 +91,7 @@ pub record RowLine (k : ℕ) (checks : List ℕ → List Check) (s : List ℕ) (
   pub count : length (x .row) ≡ suc k
   pub holds : AllHold (checks (x .row))
 
-row-line-read : (k line : ℕ) (checks : List ℕ → List Check) (s : List ℕ) (x : RowRest) → readRow k line checks s ≡ gives x → RowLine k checks s x
+pub row-line-read : (k line : ℕ) (checks : List ℕ → List Check) (s : List ℕ) (x : RowRest) → readRow k line checks s ≡ gives x → RowLine k checks s x
 row-line-read k line checks s x h =
     refuse-gives 2 line (row k s) _ h λ r q e g.
     let (holds, m) = checked-gives (checks r) (gives (record { row = r; rest = q })) x g in
@@ -145,7 +145,7 @@ row-longer [] e = absurd (omega arith)
 row-longer (a ∷ []) e = absurd (omega arith)
 row-longer (a ∷ b ∷ r) e = simp length-append (omega arith)
 
-no-row : (line : ℕ) (checks : List ℕ → List Check) (x : RowRest) → readRow 2 line checks [] ≡ gives x → ⊥
+pub no-row : (line : ℕ) (checks : List ℕ → List Check) (x : RowRest) → readRow 2 line checks [] ≡ gives x → ⊥
 unfolding row field value
 no-row line checks x e = let z : _≡_ {A = ℕ} 0 1 = cc in omega arith
 

@@ -10,7 +10,7 @@ use native.Mathlib.Omega.{arith}
 use lib.Dec.{eqb}
 use borrow.Author.Tests.{eq-eqb, ne-eqb}
 use Rattle.fold.specs.Counting.{le-or-lt}
-use Rattle.fold.specs.Fold.{bit, sum, count, some, each, below-suc}
+use Rattle.fold.specs.Fold.{bit, sum, count, some, each, lowest, below-suc}
 
 -- ---- terms that agree below the bound
 
@@ -32,6 +32,11 @@ pub each-ext : (n : ℕ) (p q : ℕ → Bool) → ((i : ℕ) → i < n → p i �
 unfolding each
 each-ext zero p q e = refl
 each-ext (suc n) p q e = ap₂ _&&_ (each-ext n p q (λ i h. e i (omega arith))) (e n (omega arith))
+
+pub lowest-ext : (n : ℕ) (p q : ℕ → Bool) → ((i : ℕ) → i < n → p i ≡ q i) → lowest n p ≡ lowest n q
+unfolding lowest
+lowest-ext zero p q e = refl
+lowest-ext (suc n) p q e = ap₂ (λ b k. cond b 0 (suc k)) (e 0 (omega arith)) (lowest-ext n (λ i. p (suc i)) (λ i. q (suc i)) (λ i h. e (suc i) (omega arith)))
 
 -- ---- sums of sums
 
