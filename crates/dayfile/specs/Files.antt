@@ -18,7 +18,7 @@ use Rattle.decimal.specs.Parsed.{Parsed, fail, got, no-fail}
 use Rattle.decimal.specs.Decimal.{value}
 use Rattle.lines.specs.Lines.{field, names, row, rowText}
 use Rattle.lines.specs.Laws.{names-written, names-read, Small, row-written, RowRead, row-read}
-use Rattle.dayfile.specs.Reading.{headNames, trainNames, moveNames, field1, headChecks, trainChecks, moveChecks, onward, orRefuse, readNames, RowRest, readRow, Rows, addRow, readTrains, readMoves, File, numbersOf, readFile}
+use Rattle.dayfile.specs.Reading.{headNames, trainNames, moveNames, field1, headChecks, trainChecks, moveChecks, onward, orRefuse, readNames, RowRest, readRow, Rows, addRow, readTrains, readMoves, headSection, trainSection, moveSection, File, numbersOf, readFile}
 use Rattle.dayfile.specs.Writing.{rowsText, fileText}
 
 -- ---- rows that keep the rules
@@ -139,7 +139,7 @@ trains-read l slots (suc n) before line s x h =
 
 -- ---- the moves
 
-row-longer : (r : List ℕ) → length r ≡ 3 → 1 ≤ length (rowText r)
+pub row-longer : (r : List ℕ) → length r ≡ 3 → 1 ≤ length (rowText r)
 unfolding rowText
 row-longer [] e = absurd (omega arith)
 row-longer (a ∷ []) e = absurd (omega arith)
@@ -232,7 +232,7 @@ file-written l f short fine =
       names-line trainNames 3 s2,
       trains,
       names-line moveNames (4 + n) s4,
-      moves-written l (numbersOf (f .trains)) short (length s4) (f .moves) (0 ∷ 0 ∷ 0 ∷ []) (5 + n) (omega arith) (fine .moves),
+      moves-written l (numbersOf (f .trains)) short (length s4) (f .moves) (0 ∷ 0 ∷ 0 ∷ []) (4 + n + 1) (omega arith) (fine .moves),
     ))
 
 pub record FileRead (l : Limits) (t : List ℕ) (f : File) : Type 0 where
@@ -242,15 +242,15 @@ pub record FileRead (l : Limits) (t : List ℕ) (f : File) : Type 0 where
 pub file-read : (l : Limits) (text : List ℕ) (f : File) → readFile l text ≡ gives f → FileRead l text f
 unfolding readFile fileText
 file-read l text f h =
-    onward-gives (readNames headNames 1 text) _ h λ s1 e1 h.
-    onward-gives (readRow 4 2 (headChecks l) s1) _ h λ head e2 h.
-    onward-gives (readNames trainNames 3 (head .rest)) _ h λ s3 e3 h.
-    onward-gives (readTrains l (getD (head .row) 2 0) (getD (head .row) 0 0) 0 4 s3) _ h λ trains e4 h.
-    onward-gives (readNames moveNames (4 + getD (head .row) 0 0) (trains .rest)) _ h λ s5 e5 h.
-    onward-gives (readMoves l (numbersOf (trains .rows)) (length s5) (0 ∷ 0 ∷ 0 ∷ []) (5 + getD (head .row) 0 0) s5) _ h λ moves e6 h.
+    onward-gives (headSection l text) _ h λ head a h.
+    onward-gives (trainSection l (getD (head .row) 2 0) (getD (head .row) 0 0) (head .rest)) _ h λ trains b h.
+    onward-gives (moveSection l (numbersOf (trains .rows)) (4 + getD (head .row) 0 0) (trains .rest)) _ h λ moves c h.
+    onward-gives (readNames headNames 1 text) _ a λ s1 e1 e2.
+    onward-gives (readNames trainNames 3 (head .rest)) _ b λ s3 e3 e4.
+    onward-gives (readNames moveNames (4 + getD (head .row) 0 0) (trains .rest)) _ c λ s5 e5 e6.
     let r = row-line-read 4 2 (headChecks l) s1 head e2 in
     let t = trains-read l (getD (head .row) 2 0) (getD (head .row) 0 0) 0 4 s3 trains e4 in
-    let m = moves-read l (numbersOf (trains .rows)) (length s5) (0 ∷ 0 ∷ 0 ∷ []) (5 + getD (head .row) 0 0) s5 moves e6 in
+    let m = moves-read l (numbersOf (trains .rows)) (length s5) (0 ∷ 0 ∷ 0 ∷ []) (4 + getD (head .row) 0 0 + 1) s5 moves e6 in
     let same : record { head = head .row; trains = trains .rows; moves = moves .rows } ≡ f = cc in
     rw (← same)
     (record {

@@ -7,3 +7,4 @@ pub mod Moves
 pub mod Fine
 pub mod RoundTrip
 pub mod Calls
+pub mod Size

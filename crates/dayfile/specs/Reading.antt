@@ -129,14 +129,21 @@ pub record File : Type 0 where
 abbrev pub numbersOf : List (List ℕ) → List ℕ
 numbersOf trains = map field1 trains
 
+-- the three sections: each is its names line, then its row or rows
+abbrev pub headSection : Limits → List ℕ → Answer RowRest
+headSection l s = onward (readNames headNames 1 s) λ s. readRow 4 2 (headChecks l) s
+
+abbrev pub trainSection : Limits → ℕ → ℕ → List ℕ → Answer Rows
+trainSection l slots n s = onward (readNames trainNames 3 s) λ s. readTrains l slots n 0 4 s
+
+abbrev pub moveSection : Limits → List ℕ → ℕ → List ℕ → Answer Rows
+moveSection l numbers line s = onward (readNames moveNames line s) λ s. readMoves l numbers (length s) (0 ∷ 0 ∷ 0 ∷ []) (line + 1) s
+
 unfoldable pub readFile : Limits → List ℕ → Answer File
 readFile l text =
-    onward (readNames headNames 1 text) λ s.
-    onward (readRow 4 2 (headChecks l) s) λ head.
-    onward (readNames trainNames 3 (head .rest)) λ s.
-    onward (readTrains l (getD (head .row) 2 0) (getD (head .row) 0 0) 0 4 s) λ trains.
-    onward (readNames moveNames (4 + getD (head .row) 0 0) (trains .rest)) λ s.
-    onward (readMoves l (numbersOf (trains .rows)) (length s) (0 ∷ 0 ∷ 0 ∷ []) (5 + getD (head .row) 0 0) s) λ moves.
+    onward (headSection l text) λ head.
+    onward (trainSection l (getD (head .row) 2 0) (getD (head .row) 0 0) (head .rest)) λ trains.
+    onward (moveSection l (numbersOf (trains .rows)) (4 + getD (head .row) 0 0) (trains .rest)) λ moves.
     gives (record { head = head .row; trains = trains .rows; moves = moves .rows })
 
 -- ---- the day of a file

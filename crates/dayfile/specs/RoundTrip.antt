@@ -120,7 +120,7 @@ module _ (l : Limits) (y : Yard) (sound-y : T (sound l y)) where
       ap (λ w. joined (w * w) (moveRows (y .numbers) w (y .boxes))) (shape .width)
       ∙ joined-ext (l .trains * l .trains) (moveRows (y .numbers) (l .trains) (y .boxes)) (moveRows numbers (l .trains) (y .boxes)) (λ q h. rows-same (y .boxes) q)
 
-  day-fine : Fine l (fileOf y)
+  pub day-fine : Fine l (fileOf y)
   unfolding fileOf
   day-fine = record {
     fields = refl;

@@ -5,11 +5,17 @@
 ghost use mathlib.Core.Path.{_≡_};
 ghost use mathlib.Core.Bool.{_&&_, _||_};
 ghost use mathlib.Core.List.{[], _∷_};
-ghost use Prim.Native.Nat.{_≤_};
+ghost use Prim.Native.Nat.{_≤_, _<_, _+_, _*_};
 ghost use lib.Dec.{ltb, eqb};
-ghost use lib.ListN.{length, take, drop};
-ghost use Rattle.dayfile.specs.Reading.{headChecks, trainChecks, moveChecks, position, readRow};
+ghost use lib.ListN.{length, take, drop, set};
+ghost use Rattle.dayfile.specs.Reading.{headChecks, trainChecks, moveChecks, position, readNames, readRow, readTrains, readMoves, headSection, trainSection, moveSection, readDay};
 ghost use Rattle.dayread.specs.Steps.{ReadsRow, ReadsMove, Judges};
+ghost use Rattle.dayread.specs.Sections.{Hands, NamesTo, TrainsTo, MovesTo};
+ghost use Rattle.model.specs.Cells.{InTable};
+ghost use Rattle.day.specs.Sound.{dayLimits, yard};
+ghost use Rattle.dayfile.specs.Calls.{zeroDay, dayOrZero};
+ghost use Rattle.dayread.specs.Whole.{answer, Ends};
+use day::Day;
 use day::Limits;
 use day::Refusal;
 use lines::Due;
@@ -191,4 +197,277 @@ fn read_move(
         return row;
     };
     Line::Refused(refusal)
+}
+
+// The place after a section, or the refusal.
+pub enum Step {
+    Next(usize),
+    Refused(Refusal),
+}
+
+// The step after a line that is not the one due: a refusal stops, any other line goes on at `at`.
+fn refused_or(line: Line, at: usize) -> Step
+    ensures { λ r. ⌜ Hands line at r ⌝ }
+{
+    let Line::Refused(refusal) = line else {
+        return Step::Next(at);
+    };
+    Step::Refused(refusal)
+}
+
+// Reads a names line.
+fn read_names(text: &[u8], at: usize, line: usize, word: &[u8]) -> Step
+    ensures { λ r. ⌜ NamesTo (now (text .entry)) (readNames (now (word .entry)) line (drop at (now (text .entry)))) r ⌝ }
+{
+    let found = lines::read_line(text, at, line, Due::NamesLine, word);
+    let Line::Names { next } = found else {
+        return refused_or(found, at);
+    };
+    Step::Next(next)
+}
+
+// A value that is known to fit a byte.
+fn narrow(x: u32) -> u8
+    requires { ⌜ x ≤ 255 ⌝ }
+    ensures { λ r. ⌜ r ≡ x ⌝ }
+{
+    x as u8
+}
+
+// Reads the rows of n trains into three columns.
+fn read_train_rows(
+    l: Limits,
+    text: &[u8],
+    at: usize,
+    slots: u32,
+    n: usize,
+    numbers: &mut [u32],
+    first: &mut [u8],
+    last: &mut [u8],
+) -> Step
+    requires { ⌜ (at ≤ length (now text)) × ((slots ≤ 255) × ((n ≤ length (now numbers)) × ((n ≤ length (now first)) × (n ≤ length (now last))))) ⌝ }
+    ensures { λ r. ⌜ TrainsTo l slots n (now (text .entry)) (readTrains l slots n 0 4 (drop at (now (text .entry)))) (now (numbers .entry)) (now (first .entry)) (now (last .entry)) (now (numbers .exit)) (now (first .exit)) (now (last .exit)) r ⌝ }
+{
+    let mut p = at;
+    let mut before: u32 = 0;
+    for i in 0..n {
+        let row = read_train(l, text, p, 4 + i, slots, before);
+        let Line::Row {
+            a,
+            b,
+            c,
+            d: _,
+            e: _,
+            next,
+        } = row
+        else {
+            return refused_or(row, p);
+        };
+        numbers[i] = a;
+        first[i] = narrow(b);
+        last[i] = narrow(c);
+        before = a;
+        p = next;
+    }
+    Step::Next(p)
+}
+
+// Reads the section of n trains.
+fn read_trains(
+    l: Limits,
+    text: &[u8],
+    at: usize,
+    slots: u32,
+    n: usize,
+    numbers: &mut [u32],
+    first: &mut [u8],
+    last: &mut [u8],
+) -> Step
+    requires { ⌜ (slots ≤ 255) × ((n ≤ length (now numbers)) × ((n ≤ length (now first)) × (n ≤ length (now last)))) ⌝ }
+    ensures { λ r. ⌜ TrainsTo l slots n (now (text .entry)) (trainSection l slots n (drop at (now (text .entry)))) (now (numbers .entry)) (now (first .entry)) (now (last .entry)) (now (numbers .exit)) (now (first .exit)) (now (last .exit)) r ⌝ }
+{
+    let names = read_names(text, at, 3, b"train first last\n");
+    let Step::Next(next) = names else {
+        return names;
+    };
+    read_train_rows(l, text, next, slots, n, numbers, first, last)
+}
+
+// Puts x at the entry (i, j) of a square table that is stored row after row.
+fn put_cell(table: &mut [u8], width: usize, i: usize, j: usize, x: u8)
+    requires { ⌜ InTable width (now table) i j ⌝ }
+    ensures { λ r. ⌜ now (table .exit) ≡ set (now (table .entry)) (i * width + j) x ⌝ }
+{
+    let at = i * width + j;
+    table[at] = x;
+}
+
+// Reads the rows of moves, up to the end of the text, into the table of boxes. `start` is the line of the first.
+fn read_move_rows(
+    l: Limits,
+    text: &[u8],
+    at: usize,
+    start: usize,
+    numbers: &[u32],
+    n: usize,
+    boxes: &mut [u8],
+    width: usize,
+) -> Step
+    requires { ⌜ (at ≤ length (now text)) × ((start ≤ 1000) × ((n ≤ length (now numbers)) × ((n ≤ width) × (width * width ≤ length (now boxes))))) ⌝ }
+    ensures { λ r. ⌜ MovesTo (take n (now (numbers .entry))) width (readMoves l (take n (now (numbers .entry))) (length (drop at (now (text .entry)))) (0 ∷ 0 ∷ 0 ∷ []) start (drop at (now (text .entry)))) (now (boxes .entry)) (now (boxes .exit)) r ⌝ }
+{
+    let mut p = at;
+    let mut line = start;
+    let mut to: u32 = 0;
+    let mut from: u32 = 0;
+    loop {
+        let row = read_move(l, text, p, line, numbers, n, to, from);
+        let Line::Row {
+            a,
+            b,
+            c,
+            d: _,
+            e: _,
+            next,
+        } = row
+        else {
+            return refused_or(row, p);
+        };
+        let i = position_of(numbers, n, a);
+        let j = position_of(numbers, n, b);
+        put_cell(boxes, width, i, j, narrow(c));
+        to = a;
+        from = b;
+        p = next;
+        line += 1;
+    }
+}
+
+// Reads the section of moves, whose names line is `line`.
+fn read_moves(
+    l: Limits,
+    text: &[u8],
+    at: usize,
+    line: usize,
+    numbers: &[u32],
+    n: usize,
+    boxes: &mut [u8],
+    width: usize,
+) -> Step
+    requires { ⌜ (line < 1000) × ((n ≤ length (now numbers)) × ((n ≤ width) × (width * width ≤ length (now boxes)))) ⌝ }
+    ensures { λ r. ⌜ MovesTo (take n (now (numbers .entry))) width (moveSection l (take n (now (numbers .entry))) line (drop at (now (text .entry)))) (now (boxes .entry)) (now (boxes .exit)) r ⌝ }
+{
+    let names = read_names(text, at, line, b"to from boxes\n");
+    let Step::Next(next) = names else {
+        return names;
+    };
+    read_move_rows(l, text, next, line + 1, numbers, n, boxes, width)
+}
+
+// Reads the first section.
+fn read_head(l: Limits, text: &[u8]) -> Line
+    ensures { λ r. ⌜ ReadsRow 4 (now (text .entry)) (headSection l (now (text .entry))) r ⌝ }
+{
+    let names = lines::read_line(
+        text,
+        0,
+        1,
+        Due::NamesLine,
+        b"trains tracks slots revisit split\n",
+    );
+    let Line::Names { next } = names else {
+        return names;
+    };
+    read_head_row(l, text, next)
+}
+
+// Whether a text was accepted, else its refusal 1 to 7.
+pub enum Outcome {
+    Accepted,
+    Refused(Refusal),
+}
+
+// What reading answers; with a refusal the day is a record of zeros.
+pub struct Reading {
+    pub outcome: Outcome,
+    pub day: Day,
+}
+
+fn zero_day() -> Day
+    ensures { λ r. ⌜ yard r ≡ zeroDay dayLimits ⌝ }
+{
+    Day {
+        trains: 0,
+        tracks: 0,
+        slots: 0,
+        revisit: 0,
+        split: 0,
+        numbers: [0; 12],
+        first: [0; 12],
+        last: [0; 12],
+        boxes: [0; 144],
+    }
+}
+
+// The reading that a refused step ends in.
+fn refused(step: Step) -> Reading
+    ensures { λ r. ⌜ Ends dayLimits step (r .outcome) (yard (r .day)) ⌝ }
+{
+    let day = zero_day();
+    let Step::Refused(refusal) = step else {
+        return Reading {
+            outcome: Outcome::Accepted,
+            day,
+        };
+    };
+    Reading {
+        outcome: Outcome::Refused(refusal),
+        day,
+    }
+}
+
+// Reads a day file.
+pub fn read_day(text: &[u8]) -> Reading
+    ensures { λ r. ⌜ (answer (r .outcome) (yard (r .day)) ≡ readDay dayLimits (now (text .entry))) × (yard (r .day) ≡ dayOrZero dayLimits (readDay dayLimits (now (text .entry)))) ⌝ }
+{
+    let l = day::day_limits();
+    let head = read_head(l, text);
+    let Line::Row {
+        a,
+        b,
+        c,
+        d,
+        e,
+        next,
+    } = head
+    else {
+        return refused(refused_or(head, 0));
+    };
+    let n = a as usize;
+    let mut numbers: [u32; 12] = [0; 12];
+    let mut first: [u8; 12] = [0; 12];
+    let mut last: [u8; 12] = [0; 12];
+    let mut boxes: [u8; 144] = [0; 144];
+    let trains = read_trains(l, text, next, c, n, &mut numbers, &mut first, &mut last);
+    let Step::Next(at) = trains else {
+        return refused(trains);
+    };
+    let moves = read_moves(l, text, at, 4 + n, &numbers, n, &mut boxes, 12);
+    let Step::Next(_) = moves else {
+        return refused(moves);
+    };
+    Reading {
+        outcome: Outcome::Accepted,
+        day: Day {
+            trains: n,
+            tracks: b,
+            slots: narrow(c),
+            revisit: d,
+            split: e,
+            numbers,
+            first,
+            last,
+            boxes,
+        },
+    }
 }

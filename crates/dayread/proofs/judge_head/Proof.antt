@@ -1,6 +1,8 @@
-use mathlib.Core.Path.{_≡_, refl, sym, _∙_}
+-- `dayread::judge_head` meets its contract. The test is the definition's, by the contract of `head_within`.
+-- Assumes nothing.
+use mathlib.Core.Path.{_≡_, sym, _∙_}
 use mathlib.Core.List.{[], _∷_}
-use borrow.Author.Tests.{not-true, not-false, lt-ltb, le-ltb, le-leb, lt-leb}
+use borrow.Author.Tests.{not-true, not-false}
 use Rattle.fold.specs.Test.{of-true}
 use Rattle.day.specs.Sound.{within, headRanges}
 use borrow.Author.Needs.{needs}

@@ -1,10 +1,12 @@
-use mathlib.Core.Path.{_≡_, refl, sym, _∙_}
+-- `dayread::judge_move` meets its contract. Each test is the definition's; the first that fails decides.
+-- Assumes nothing.
+use mathlib.Core.Path.{_≡_, sym, _∙_}
 use mathlib.Core.List.{[], _∷_}
-use borrow.Author.Tests.{not-true, not-false, lt-ltb, le-ltb, le-leb, lt-leb}
+use borrow.Author.Tests.{not-true, not-false}
 use Rattle.fold.specs.Test.{of-true}
-use mathlib.Core.Bool.{Bool, not, _&&_}
+use mathlib.Core.Bool.{not, _&&_}
 use lib.Dec.{ltb, eqb}
-use lib.ListN.{length, take}
+use lib.ListN.{take}
 use lib.Seq.{length-take-le}
 use Rattle.day.specs.Sound.{within, moveRanges}
 use Rattle.dayfile.specs.Reading.{isListed}

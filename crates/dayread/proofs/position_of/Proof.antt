@@ -1,3 +1,5 @@
+-- `dayread::position_of` meets its contract. None of the numbers before i is x.
+-- Assumes nothing.
 use Prim.Native.Nat.{_≤_, _-_}
 use mathlib.Core.Path.{_≡_, sym, _∙_}
 use mathlib.Core.Bool.{false}

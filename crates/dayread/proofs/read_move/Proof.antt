@@ -1,11 +1,12 @@
-use mathlib.Core.Path.{_≡_, refl, sym, _∙_}
+-- `dayread::read_move` meets its contract. The line reader's row is judged; the end or a refusal is handed up.
+-- Assumes nothing.
 use mathlib.Core.List.{[], _∷_}
 use lib.ListN.{drop, take}
 use Rattle.lines.specs.Lines.{row}
-use Rattle.lines.specs.Reader.{rowFound, found, RowAt}
+use Rattle.lines.specs.Reader.{rowFound, RowAt}
 use Rattle.dayfile.specs.Reading.{moveChecks}
 use Rattle.dayread.specs.Steps.{three-checks, row-fine, row-broken, row-at, not-empty}
-use Rattle.dayread.proofs.Handed.{move-handed}
+use Rattle.dayread.proofs.Tags.{move-handed}
 use borrow.Author.Needs.{needs}
 use Rattle.dayread.proofs.read_move.Statement.{statement}
 use Rattle.dayread.proofs.read_move.Tie as tie

@@ -1,0 +1,107 @@
+-- The whole text: the sections, once read, give the day; a section that is refused gives the refusal beside zeros.
+-- Assumes nothing.
+use mathlib.Core.Path.{_≡_, refl, sym, ap, ap₂, _∙_}
+use mathlib.Core.List.{List, [], _∷_, _++_, map}
+use Prim.Native.Nat.{ℕ, zero, suc, _+_, _-_, _*_, _≤_}
+use native.Mathlib.Omega.{arith}
+use lib.Dec.{T}
+use lib.ListN.{length, getD, take, drop, replicate, length-map}
+use lib.Seq.{take-append-seam}
+use Rattle.model.specs.Model.{Yard}
+use Rattle.day.specs.Answer.{Answer, gives, refuses, refusal}
+use Rattle.day.specs.Sound.{within, headRanges}
+use Rattle.day.specs.SoundLaws.{within-is}
+use Rattle.day.specs.declared.Limits.{Limits}
+use Rattle.day.specs.declared.Refusal.{Refusal}
+use Rattle.dayfile.specs.Reading.{field1, field2, field3, onward, RowRest, headChecks, headNames, readNames, readRow, Rows, File, headSection, trainSection, moveSection, readFile, padded, stored, dayOf, readDay}
+use Rattle.dayfile.specs.Files.{onward-gives, row-line-read}
+use Rattle.dayfile.specs.Calls.{zeroDay, dayOrZero}
+use Rattle.dayread.specs.Steps.{rowRest, RowTo}
+use Rattle.dayread.specs.Sections.{TrainsRead, MovesRead}
+use Rattle.dayread.specs.declared.Outcome.{Outcome}
+use Rattle.dayread.specs.declared.Outcome.the-variants.{Accepted, Refused}
+use Rattle.dayread.specs.declared.Step.{Step}
+use Rattle.dayread.specs.declared.Step.the-variants.{Next, Refused as Stopped}
+
+-- ---- what the reading call answers
+
+abbrev pub answer : Outcome → Yard → Answer Yard
+answer Accepted y = gives y
+answer (Refused x) y = refusal x
+
+-- the answer is what reading says, and the day beside it is the one read, or zeros
+abbrev pub Reads : Limits → List ℕ → Outcome → Yard → Type 0
+Reads l t outcome y = (answer outcome y ≡ readDay l t) × (y ≡ dayOrZero l (readDay l t))
+
+-- a step that stopped, as a reading
+abbrev pub Ends : Limits → Step → Outcome → Yard → Type 0
+Ends l (Next p) outcome y = Unit
+Ends l (Stopped x) outcome y = (outcome ≡ Refused x) × (y ≡ zeroDay l)
+
+-- ---- the first section
+
+pub record HeadLimits (l : Limits) (a c : ℕ) : Type 0 where
+  pub trains : a ≤ l .trains
+  pub slots : c ≤ l .slots
+
+pub head-limits : (l : Limits) (t s : List ℕ) {a b c d e next : ℕ} → RowTo 4 t (headSection l s) a b c d e next → HeadLimits l a c
+unfolding headRanges
+head-limits l t s {a} {b} {c} {d} {e} {next} h =
+    onward-gives (readNames headNames 1 s) (readRow 4 2 (headChecks l)) (h .is) λ q x y.
+    let w = row-line-read 4 2 (headChecks l) q (rowRest (a ∷ b ∷ c ∷ d ∷ e ∷ []) (drop next t)) y in
+    let (n, (m, (k, u))) = within-is (headRanges l) (a ∷ b ∷ c ∷ d ∷ e ∷ []) (w .holds .0) in
+    record { trains = n .1; slots = k .1 }
+
+-- ---- the sections, one after the other
+
+drop-replicate : (n m : ℕ) → drop {A = ℕ} n (replicate m 0) ≡ replicate (m - n) 0
+drop-replicate zero m = let e : m ≡ m - 0 = omega arith in ap (λ k. replicate k 0) e
+drop-replicate (suc n) zero = let e : 0 ≡ 0 - suc n = omega arith in ap (λ k. replicate k 0) e
+drop-replicate (suc n) (suc m) = let e : m - n ≡ suc m - suc n = omega arith in drop-replicate n m ∙ ap (λ k. replicate k 0) e
+
+padded-is : (g : List ℕ → ℕ) (rows : List (List ℕ)) (n width : ℕ) → length rows ≡ n → map g rows ++ drop n (replicate width 0) ≡ padded width (map g rows)
+padded-is g rows n width e = ap (λ (r : List ℕ). map g rows ++ r) (drop-replicate n width ∙ ap (λ k. replicate (width - k) 0) (sym (length-map rows g ∙ e)))
+
+module _ (l : Limits) (t : List ℕ) where
+  pub head-stops : (x : Refusal) → headSection l t ≡ refusal x → readDay l t ≡ refusal x
+  unfolding readDay readFile
+  head-stops x e = rw e
+
+  module _ {a b c d e next : ℕ} (h : RowTo 4 t (headSection l t) a b c d e next) where
+    pub trains-stop : (x : Refusal) → trainSection l c a (drop next t) ≡ refusal x → readDay l t ≡ refusal x
+    unfolding readDay readFile
+    trains-stop x f = rw (h .is, f)
+
+    module _ {numbers first last : List ℕ} {at : ℕ} (g : TrainsRead l c a t (trainSection l c a (drop next t)) (replicate (l .trains) 0) (replicate (l .trains) 0) (replicate (l .trains) 0) numbers first last at) where
+      numbers-are : take a numbers ≡ map field1 (g .rows)
+      numbers-are = ap (take a) (g .numbersAre) ∙ rw (← (length-map (g .rows) field1 ∙ g .count)) (take-append-seam (map field1 (g .rows)) (drop (length (map field1 (g .rows))) (replicate (l .trains) 0)))
+
+      pub moves-stop : (x : Refusal) → moveSection l (take a numbers) (4 + a) (drop at t) ≡ refusal x → readDay l t ≡ refusal x
+      unfolding readDay readFile
+      moves-stop x f = rw (h .is, g .is, rw numbers-are at f)
+
+      pub day-read : {boxes : List ℕ} → MovesRead (take a numbers) (l .trains) (moveSection l (take a numbers) (4 + a) (drop at t)) (replicate (l .trains * l .trains) 0) boxes
+          → readDay l t ≡ gives (record { trains = a; tracks = b; slots = c; revisit = d; split = e; numbers = numbers; first = first; last = last; width = l .trains; boxes = boxes })
+      unfolding readDay readFile dayOf
+      day-read {boxes} m =
+          rw (
+            h .is,
+            g .is,
+            rw numbers-are at (m .is),
+            m .boxesAre,
+            numbers-are,
+            g .numbersAre,
+            g .firstIs,
+            g .lastIs,
+            padded-is field1 (g .rows) a (l .trains) (g .count),
+            padded-is field2 (g .rows) a (l .trains) (g .count),
+            padded-is field3 (g .rows) a (l .trains) (g .count),
+          )
+
+-- ---- the reading
+
+pub reads-refused : (l : Limits) (t : List ℕ) (x : Refusal) {outcome : Outcome} {y : Yard} → readDay l t ≡ refusal x → (outcome ≡ Refused x) × (y ≡ zeroDay l) → Reads l t outcome y
+reads-refused l t x {outcome} {y} e f = (rw (f .0, e), rw e (f .1))
+
+pub reads-day : (l : Limits) (t : List ℕ) (y : Yard) → readDay l t ≡ gives y → Reads l t Accepted y
+reads-day l t y e = (sym e, rw e)

@@ -1,0 +1,82 @@
+-- `daywrite::write_day` meets its contract. Each return is one of the laws `says-..`; the text of a sound day fits the buffer.
+-- Assumes nothing.
+use mathlib.Core.Path.{_≡_, sym, ap, _∙_}
+use mathlib.Core.Bool.{true}
+use Prim.Native.Nat.{_≤_}
+use native.Mathlib.Omega.{arith}
+use lib.ListN.{length, take}
+use borrow.Author.Tests.{not-true, not-false}
+use Rattle.fold.specs.Test.{of-true}
+use Rattle.day.specs.Sound.{dayLimits, yard, sound}
+use Rattle.day.specs.SoundLaws.{sound-is}
+use Rattle.dayfile.specs.Writing.{dayText}
+use Rattle.dayfile.specs.Size.{day-size, day-most}
+use Rattle.daywrite.specs.Laws.{put-count, put-front, says-unsound, says-short, says-written}
+use borrow.Author.Needs.{needs}
+use Rattle.daywrite.proofs.write_day.Statement.{statement}
+use Rattle.daywrite.proofs.write_day.Tie as tie
+
+-- past the first check the day is sound, and its text fits the buffer
+sound-day : (c : tie.Else1) → sound dayLimits (yard (c .before .before .before .args .day)) ≡ true
+sound-day c = sym (c .before .is-sound .ensures) ∙ not-false _ (c .if1 .left)
+
+text-fits : (c : tie.Else1) → length (dayText (yard (c .before .before .before .args .day))) ≤ 4096
+text-fits c = omega (arith, day-size dayLimits _ (of-true (sound-day c)), day-most)
+
+-- the buffer's front is that text
+count : (c : tie.After-put-day) → c .put-day .result ≡ length (dayText (yard (c .before .before .before .before .before .args .day)))
+count c = put-count (c .put-day .ensures)
+
+front : (c : tie.After-put-day) → take (c .put-day .result) (c .put-day .last .1 .0) ≡ dayText (yard (c .before .before .before .before .before .args .day))
+front c = put-front (c .put-day .ensures) (text-fits (c .before .before))
+
+front-length : (c : tie.After-put-day) → length (take (c .put-day .result) (c .put-day .last .1 .0)) ≡ c .put-day .result
+front-length c = ap length (front c) ∙ sym (count c)
+
+is-sound-requires : tie.Need-is-sound-requires
+is-sound-requires c κs = search needs
+
+returns : tie.Need-returns
+returns c = says-unsound _ _ _ (sym (c .before .is-sound .ensures) ∙ not-true _ (c .if1 .taken))
+
+slice-aggregate-put-day : tie.Need-slice-aggregate-put-day
+slice-aggregate-put-day c = search needs
+
+put-day-requires : tie.Need-put-day-requires
+put-day-requires c κs = (sound-is _ _ (of-true (sound-day (c .before))) .trains .1, text-fits (c .before))
+
+returns-2 : tie.Need-returns-2
+returns-2 c = let p = c .before .before in says-short _ _ _ (sound-day (p .before .before)) (omega (arith, count p, c .if2 .taken))
+
+array-share-prefix-text : tie.Need-array-share-prefix-text
+array-share-prefix-text c = let p = c .before .before .before in omega (arith, count p, text-fits (p .before .before), p .put-day .kept .1 .0)
+
+slice-aggregate-put-bytes : tie.Need-slice-aggregate-put-bytes
+slice-aggregate-put-bytes c = let p = c .before .before .before .before in omega (arith, front-length p)
+
+put-bytes-requires : tie.Need-put-bytes-requires
+put-bytes-requires c κs = let p = c .before .before .before .before in omega (arith, front-length p, c .before .before .if2 .left)
+
+same-length : tie.Need-same-length
+same-length c = search needs
+
+returns-3 : tie.Need-returns-3
+returns-3 c =
+    let b = c .before .before in
+    let p = b .before .before .before .before .before in
+    rw (count p) (says-written _ _ _ (sound-day (p .before .before)) (omega (arith, count p, b .before .before .before .if2 .left)) (front p) (b .put-bytes .ensures))
+
+pub write-day-spec : {M : Type 1} → statement M
+write-day-spec =
+    tie.close
+    (tie.spec
+    is-sound-requires
+    returns
+    slice-aggregate-put-day
+    put-day-requires
+    returns-2
+    array-share-prefix-text
+    slice-aggregate-put-bytes
+    put-bytes-requires
+    same-length
+    returns-3)

@@ -1,0 +1,34 @@
+-- The writing call's answer in 01's numbers, and the text of a day's sections as the code puts them.
+-- Assumes nothing.
+use mathlib.Core.List.{List, _++_}
+use Prim.Native.Nat.{ℕ, _*_}
+use Rattle.fold.specs.Listed.{joined}
+use Rattle.day.specs.Answer.{Answer, gives, refusal}
+use Rattle.day.specs.Sound.{trainRow}
+use Rattle.lines.specs.Lines.{rowText}
+use Rattle.dayfile.specs.Reading.{headNames, trainNames, moveNames}
+use Rattle.dayfile.specs.Writing.{rowsText, moveRows}
+use Rattle.daywrite.specs.declared.Wrote.{Wrote}
+use Rattle.daywrite.specs.declared.Wrote.the-variants.{Bytes, Refused}
+
+abbrev pub answer : Wrote → Answer ℕ
+answer (Bytes count) = gives count
+answer (Refused r) = refusal r
+
+-- the first section, by the fields of its row
+abbrev pub headText : List ℕ → List ℕ
+headText row = headNames ++ rowText row
+
+-- the second section, of n trains
+abbrev pub trainText : List ℕ → List ℕ → List ℕ → ℕ → List ℕ
+trainText numbers first last i = rowText (trainRow numbers first last i)
+
+abbrev pub trainsText : List ℕ → List ℕ → List ℕ → ℕ → List ℕ
+trainsText numbers first last n = trainNames ++ joined n (trainText numbers first last)
+
+-- the third section, by the places of the table of boxes
+abbrev pub moveText : List ℕ → ℕ → List ℕ → ℕ → List ℕ
+moveText numbers width boxes q = rowsText (moveRows numbers width boxes q)
+
+abbrev pub movesText : List ℕ → ℕ → List ℕ → List ℕ
+movesText numbers width boxes = moveNames ++ joined (width * width) (moveText numbers width boxes)

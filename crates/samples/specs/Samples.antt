@@ -1,0 +1,285 @@
+-- Sample texts and what each reads to, as one table, and the one theorem that every line holds:
+--     every-line : (l : Line) → List·Memᴰ l table → Holds l
+-- The checker computes one test over the whole table; `line-holds` turns a line's test into its statement. That an accepted text is
+-- written as the same bytes follows from `read-write`.
+-- Assumes nothing.
+use mathlib.Core.Path.{_≡_, refl, sym, ap, ap₂, subst}
+use mathlib.Core.Bool.{Bool, true, false, cond, _&&_}
+use mathlib.Core.Logic.{⊎-elim}
+use mathlib.Core.List.{List, [], _∷_, _++_, List·Memᴰ, List·Memᴰ·not-nil, List·Memᴰ·cases-cons}
+use Prim.Native.Nat.{ℕ, _+_}
+use Prim.Native.String.{String}
+use lib.Dec.{T, eqb, eqb→eq}
+use lib.ListN.{length, getD}
+use Rattle.fold.specs.Test.{both-of, sameList, same-list}
+use Rattle.fold.specs.Fold.{lowest}
+use Rattle.fold.specs.Listed.{joined}
+use Rattle.model.specs.Model.{Yard}
+use Rattle.day.specs.Answer.{Answer, gives, refuses}
+use Rattle.day.specs.Sound.{dayLimits, yard, within, headRanges, trainRanges, moveRanges, headRow}
+use Rattle.day.specs.declared.Day.{Day}
+use Rattle.table.specs.Days.{move, openDay, paperDay, numbered}
+use Rattle.decimal.specs.Decimal.{more, value, digitsWithin}
+use Rattle.lines.specs.Lines.{ascii, byte, names, field, row, rowText}
+use Rattle.dayfile.specs.Reading.{headNames, trainNames, moveNames, position, readTrains, readMoves, readFile, stored, dayOf, readDay}
+use Rattle.dayfile.specs.Writing.{dayText}
+use Rattle.dayfile.specs.RoundTrip.{read-write}
+
+-- ---- what a line says
+
+pub data Line : Type 0 where
+  accepted : List ℕ → Day → Line
+  acceptedSame : List ℕ → Line
+  refused : List ℕ → ℕ → ℕ → Line
+
+abbrev pub Holds : Line → Type 0
+-- the text reads to this day, and the day is written as the same bytes
+Holds (accepted text d) = (readDay dayLimits text ≡ gives (yard d)) × (dayText (yard d) ≡ text)
+-- the same of some day
+Holds (acceptedSame text) = (y : Yard) × (readDay dayLimits text ≡ gives y) × (dayText y ≡ text)
+-- the text is refused with this number and this line
+Holds (refused text k line) = readDay dayLimits text ≡ refuses k (line ∷ [])
+
+-- ---- texts
+
+-- the rows of the three sections, each under its names line
+unfoldable pub file : String → String → String → List ℕ
+unfolding headNames trainNames moveNames
+file head trains moves = headNames ++ ascii head ++ trainNames ++ ascii trains ++ moveNames ++ ascii moves
+
+-- P1's file with other moves, from line 9 on; with another row of five, line 2; with other trains, from line 4 on
+unfoldable pub withMoves : String → List ℕ
+unfolding file
+withMoves = file "4 2 2 1 1\n" "1 1 2\n2 1 2\n3 1 2\n4 1 2\n"
+
+unfoldable pub withHead : String → List ℕ
+unfolding file
+withHead head = file head "1 1 2\n2 1 2\n3 1 2\n4 1 2\n" "1 4 1\n3 1 3\n3 4 5\n4 2 6\n4 3 1\n"
+
+unfoldable pub withTrains : String → List ℕ
+unfolding file
+withTrains trains = file "4 2 2 1 1\n" trains "1 4 1\n3 1 3\n3 4 5\n4 2 6\n4 3 1\n"
+
+-- the longest file: 12 trains with the numbers 244 to 255, a move for each pair, every value of the most digits
+unfoldable pub fullFile : List ℕ
+unfolding headNames trainNames moveNames joined rowText digitsWithin
+fullFile =
+    headNames ++ ascii "12 12 8 65535 65535\n"
+    ++ trainNames ++ joined 12 (λ i. rowText ((244 + i) ∷ 8 ∷ 8 ∷ []))
+    ++ moveNames ++ joined 12 (λ i. joined 12 λ j. cond (eqb i j) [] (rowText ((244 + i) ∷ (244 + j) ∷ 255 ∷ [])))
+
+-- ---- the table
+
+unfoldable pub table : List Line
+unfolding file withMoves withHead withTrains fullFile openDay paperDay numbered
+table =
+    -- P1
+    accepted (ascii "trains tracks slots revisit split\n4 2 2 1 1\ntrain first last\n1 1 2\n2 1 2\n3 1 2\n4 1 2\nto from boxes\n1 4 1\n3 1 3\n3 4 5\n4 2 6\n4 3 1\n") (paperDay 1 1 1)
+    -- 01's small inputs of the refusals 1 to 7
+    ∷ refused (ascii "trains\n4 2 2 1 1\ntrain first last\n1 1 2\n2 1 2\n3 1 2\n4 1 2\nto from boxes\n1 4 1\n") 1 1
+    ∷ refused (withTrains "1 01 2\n2 1 2\n3 1 2\n4 1 2\n") 2 4
+    ∷ refused (withHead "13 2 2 1 1\n") 3 2
+    ∷ refused (withTrains "3 1 2\n5 1 2\n5 1 2\n6 1 2\n") 4 6
+    ∷ refused (withTrains "1 1 2\n2 1 2\n3 1 2\n7 2 1\n") 5 7
+    ∷ refused (withMoves "1 4 1\n4 4 1\n") 6 10
+    ∷ refused (withMoves "1 4 1\n3 4 5\n3 1 3\n4 2 6\n") 7 11
+    -- the other two names lines
+    ∷ refused (ascii "trains tracks slots revisit split\n1 2 2 1 1\ntrain last first\n1 1 2\nto from boxes\n") 1 3
+    ∷ refused (ascii "trains tracks slots revisit split\n1 2 2 1 1\ntrain first last\n1 1 2\nfrom to boxes\n") 1 5
+    -- the limits: 12 trains and 13, 12 tracks and 13, 8 slots and 9, weights 65535 and 65536, numbers and boxes 255 and 256
+    ∷ accepted (file "12 12 8 1 1\n" "1 1 8\n2 1 8\n3 1 8\n4 1 8\n5 1 8\n6 1 8\n7 1 8\n8 1 8\n9 1 8\n10 1 8\n11 1 8\n12 1 8\n" "") (openDay 12 12 8 [])
+    ∷ refused (file "13 12 8 1 1\n" "1 1 8\n2 1 8\n3 1 8\n4 1 8\n5 1 8\n6 1 8\n7 1 8\n8 1 8\n9 1 8\n10 1 8\n11 1 8\n12 1 8\n13 1 8\n" "") 3 2
+    ∷ refused (file "0 2 2 1 1\n" "" "") 3 2
+    ∷ refused (withHead "4 13 2 1 1\n") 3 2
+    ∷ refused (withHead "4 0 2 1 1\n") 3 2
+    ∷ refused (withHead "4 2 9 1 1\n") 3 2
+    ∷ refused (withHead "4 2 0 1 1\n") 3 2
+    ∷ accepted (withHead "4 2 2 65535 65535\n") (paperDay 65535 65535 1)
+    ∷ accepted (withHead "4 2 2 0 0\n") (paperDay 0 0 1)
+    ∷ refused (withHead "4 2 2 65536 1\n") 3 2
+    ∷ refused (withHead "4 2 2 1 65536\n") 3 2
+    ∷ accepted (file "2 1 2 1 1\n" "3 1 2\n255 1 2\n" "") (numbered (3 ∷ 255 ∷ []))
+    ∷ refused (file "2 1 2 1 1\n" "3 1 2\n256 1 2\n" "") 3 5
+    ∷ refused (withTrains "0 1 2\n2 1 2\n3 1 2\n4 1 2\n") 3 4
+    ∷ refused (withTrains "1 0 2\n2 1 2\n3 1 2\n4 1 2\n") 3 4
+    ∷ refused (withTrains "1 1 2\n2 1 3\n3 1 2\n4 1 2\n") 3 5
+    ∷ accepted (file "2 1 2 1 1\n" "1 1 2\n2 1 2\n" "1 2 255\n") (openDay 2 1 2 (move 1 2 255 ∷ []))
+    ∷ refused (withMoves "1 2 256\n") 3 9
+    ∷ refused (withMoves "1 2 0\n") 3 9
+    ∷ refused (withMoves "0 2 1\n") 3 9
+    ∷ refused (withMoves "1 256 1\n") 3 9
+    -- values: five digits and six, leading zeros
+    ∷ refused (withHead "4 2 2 99999 1\n") 3 2
+    ∷ refused (withHead "4 2 2 100000 1\n") 2 2
+    ∷ refused (withHead "4 2 2 01 1\n") 2 2
+    ∷ refused (withHead "4 2 2 00 1\n") 2 2
+    -- the text ends: after nothing, in a line, after each kind of line; only after the third names line and after a move is it whole
+    ∷ refused [] 1 1
+    ∷ refused (ascii "trains tracks slots revisit split") 1 1
+    ∷ refused (ascii "trains tracks slots revisit split\n") 2 2
+    ∷ refused (ascii "trains tracks slots revisit split\n4 2 2 1 1") 2 2
+    ∷ refused (ascii "trains tracks slots revisit split\n4 2 2 1 1\n") 1 3
+    ∷ refused (ascii "trains tracks slots revisit split\n4 2 2 1 1\ntrain first last") 1 3
+    ∷ refused (ascii "trains tracks slots revisit split\n1 2 2 1 1\ntrain first last\n") 2 4
+    ∷ refused (ascii "trains tracks slots revisit split\n1 2 2 1 1\ntrain first last\n1 1 2") 2 4
+    ∷ refused (ascii "trains tracks slots revisit split\n1 2 2 1 1\ntrain first last\n1 1 2\n") 1 5
+    ∷ refused (ascii "trains tracks slots revisit split\n1 2 2 1 1\ntrain first last\n1 1 2\nto from boxes") 1 5
+    ∷ accepted (withMoves "") (openDay 4 2 2 [])
+    ∷ refused (withMoves "1 4 1\n3 1 3") 2 10
+    ∷ acceptedSame (withMoves "1 4 1\n3 1 3\n")
+    -- blanks, a byte 13, empty lines, another count of fields, a names line among the moves
+    ∷ refused (withMoves "1  4 1\n") 2 9
+    ∷ refused (withMoves " 1 4 1\n") 2 9
+    ∷ refused (withMoves "1 4 1 \n") 2 9
+    ∷ refused (withMoves "1\t4 1\n") 2 9
+    ∷ refused (withMoves "1 4 1\r\n") 2 9
+    ∷ refused (withTrains "1 1 2\n2 1 2 \n3 1 2\n4 1 2\n") 2 5
+    ∷ refused (ascii "trains tracks slots revisit split \n4 2 2 1 1\n") 1 1
+    ∷ refused (ascii "trains tracks slots revisit split\r\n4 2 2 1 1\n") 1 1
+    ∷ refused (withHead "4 2 2 1 1\r\n") 2 2
+    ∷ refused (withHead "4 2 2 1 1\n\n") 1 3
+    ∷ refused (withTrains "1 1 2\n\n2 1 2\n3 1 2\n4 1 2\n") 2 5
+    ∷ refused (withTrains "1 1 2\n2 1 2\n3 1 2\n4 1 2\n\n") 1 8
+    ∷ refused (withMoves "\n") 2 9
+    ∷ refused (withMoves "1 4 1\n\n3 1 3\n") 2 10
+    ∷ refused (withMoves "1 4 1\n3 1 3\n\n") 2 11
+    ∷ refused (withMoves "1 4\n") 2 9
+    ∷ refused (withMoves "1 4 1 1\n") 2 9
+    ∷ refused (withMoves "1 4 x\n") 2 9
+    ∷ refused (withMoves "1 4 -1\n") 2 9
+    ∷ refused (withHead "4 2 2 1\n") 2 2
+    ∷ refused (withHead "4 2 2 1 1 1\n") 2 2
+    ∷ refused (withMoves "1 4 1\nto from boxes\n") 2 10
+    -- a row too many, a train too few
+    ∷ refused (withHead "4 2 2 1 1\n4 2 2 1 1\n") 1 3
+    ∷ refused (withTrains "1 1 2\n2 1 2\n3 1 2\n4 1 2\n5 1 2\n") 1 8
+    ∷ refused (withTrains "1 1 2\n2 1 2\n3 1 2\n") 2 7
+    -- in one line: the form before the limits, then 3, 4, 5, and 3, 6, 7; of two lines the first
+    ∷ refused (withHead "13 2 2 1 x\n") 2 2
+    ∷ refused (withTrains "1 1 2\n5 1 2\n3 9 1\n7 1 2\n") 3 6
+    ∷ refused (withTrains "1 1 2\n5 1 2\n3 2 1\n7 1 2\n") 4 6
+    ∷ refused (withTrains "1 1 2\n5 1 2\n6 2 1\n7 1 2\n") 5 6
+    ∷ refused (withMoves "4 3 1\n3 3 0\n") 3 10
+    ∷ refused (withMoves "4 3 1\n3 3 1\n") 6 10
+    ∷ refused (withMoves "4 3 1\n3 4 1\n") 7 10
+    ∷ refused (withTrains "1 1 2\n2 2 1\n2 1 3\n1 01 2\n") 5 5
+    -- pairs: the same twice, one supplier after a later one, a train not listed, a train and itself
+    ∷ refused (withMoves "1 4 1\n1 4 1\n") 7 10
+    ∷ refused (withMoves "1 4 1\n1 3 1\n") 7 10
+    ∷ refused (withMoves "1 5 1\n") 6 9
+    ∷ refused (withMoves "5 1 1\n") 6 9
+    ∷ refused (withMoves "1 1 1\n") 6 9
+    ∷ refused (withMoves "5 5 1\n") 6 9
+    -- the longest file, and one row more
+    ∷ acceptedSame fullFile
+    ∷ refused (fullFile ++ ascii "255 254 255\n") 7 149
+    ∷ []
+
+-- ---- the test of a line
+
+sameYard : Yard → Yard → Bool
+sameYard y z =
+    sameList (headRow y) (headRow z) && sameList (y .numbers) (z .numbers) && sameList (y .first) (z .first) && sameList (y .last) (z .last)
+    && eqb (y .width) (z .width) && sameList (y .boxes) (z .boxes)
+
+isDay : Answer Yard → Yard → Bool
+isDay (gives y) z = sameYard y z
+isDay (refuses k carries) z = false
+
+isGiven : Answer Yard → Bool
+isGiven (gives y) = true
+isGiven (refuses k carries) = false
+
+isRefused : Answer Yard → ℕ → List ℕ → Bool
+isRefused (gives y) m carried = false
+isRefused (refuses k carries) m carried = eqb k m && sameList carries carried
+
+passes : Line → Bool
+passes (accepted text d) = isDay (readDay dayLimits text) (yard d)
+passes (acceptedSame text) = isGiven (readDay dayLimits text)
+passes (refused text k line) = isRefused (readDay dayLimits text) k (line ∷ [])
+
+allPass : List Line → Bool
+allPass [] = true
+allPass (l ∷ ls) = passes l && allPass ls
+
+-- the one computation
+computed : T (allPass table)
+unfolding allPass passes sameYard isDay isGiven isRefused sameList table readDay readFile readTrains readMoves headNames trainNames moveNames position stored dayOf byte names field row more value within headRanges trainRanges moveRanges lowest
+computed = tt
+
+-- the bound of `accepted-size` (the day file's Size.antt) is reached
+pub full-size : length fullFile ≡ 1765
+unfolding fullFile
+full-size = refl
+
+-- ---- from the test to the statement
+
+same-yard : (y z : Yard) → T (sameYard y z) → y ≡ z
+unfolding sameYard
+same-yard y z t =
+    let h = sameList (headRow y) (headRow z) in
+    let n = sameList (y .numbers) (z .numbers) in
+    let e = sameList (y .first) (z .first) in
+    let s = sameList (y .last) (z .last) in
+    let w = eqb (y .width) (z .width) in
+    let (a, boxes) = both-of (h && n && e && s && w) (sameList (y .boxes) (z .boxes)) t in
+    let (b, width) = both-of (h && n && e && s) w a in
+    let (c, last) = both-of (h && n && e) s b in
+    let (d, first) = both-of (h && n) e c in
+    let (head, numbers) = both-of h n d in
+    let hs = same-list (headRow y) (headRow z) head in
+    let ns = same-list (y .numbers) (z .numbers) numbers in
+    let es = same-list (y .first) (z .first) first in
+    let ss = same-list (y .last) (z .last) last in
+    let ws = eqb→eq (y .width) (z .width) width in
+    let bs = same-list (y .boxes) (z .boxes) boxes in
+    λ i. record {
+      trains = getD (hs i) 0 0;
+      tracks = getD (hs i) 1 0;
+      slots = getD (hs i) 2 0;
+      revisit = getD (hs i) 3 0;
+      split = getD (hs i) 4 0;
+      numbers = ns i;
+      first = es i;
+      last = ss i;
+      width = ws i;
+      boxes = bs i;
+    }
+
+is-day : (a : Answer Yard) (z : Yard) → T (isDay a z) → a ≡ gives z
+unfolding isDay
+is-day (gives y) z t = ap gives (same-yard y z t)
+is-day (refuses k carries) z t = absurd t
+
+is-given : (a : Answer Yard) → T (isGiven a) → (y : Yard) × (a ≡ gives y)
+unfolding isGiven
+is-given (gives y) t = (y, refl)
+is-given (refuses k carries) t = absurd t
+
+is-refused : (a : Answer Yard) (m : ℕ) (carried : List ℕ) → T (isRefused a m carried) → a ≡ refuses m carried
+unfolding isRefused
+is-refused (gives y) m carried t = absurd t
+is-refused (refuses k carries) m carried t =
+    let (p, q) = both-of (eqb k m) (sameList carries carried) t in
+    ap₂ refuses (eqb→eq k m p) (same-list carries carried q)
+
+line-holds : (l : Line) → T (passes l) → Holds l
+unfolding passes
+line-holds (accepted text d) t =
+    let reads = is-day (readDay dayLimits text) (yard d) t in
+    (reads, sym (read-write dayLimits text (yard d) reads))
+line-holds (acceptedSame text) t =
+    let (y, reads) = is-given (readDay dayLimits text) t in
+    (y, reads, sym (read-write dayLimits text y reads))
+line-holds (refused text k line) t = is-refused (readDay dayLimits text) k (line ∷ []) t
+
+all-hold : (ls : List Line) → T (allPass ls) → (l : Line) → List·Memᴰ l ls → Holds l
+unfolding allPass
+all-hold [] t l m = absurd (List·Memᴰ·not-nil m)
+all-hold (x ∷ ls) t l m =
+    let (here, rest) = both-of (passes x) (allPass ls) t in
+    ⊎-elim (λ e. subst Holds (sym e) (line-holds x here)) (λ n. all-hold ls rest l n) (List·Memᴰ·cases-cons m)
+
+pub every-line : (l : Line) → List·Memᴰ l table → Holds l
+every-line = all-hold table computed
