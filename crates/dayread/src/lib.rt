@@ -286,7 +286,7 @@ fn read_trains(
     requires { ⌜ (slots ≤ 255) × ((n ≤ length (now numbers)) × ((n ≤ length (now first)) × (n ≤ length (now last)))) ⌝ }
     ensures { λ r. ⌜ TrainsTo l slots n (now (text .entry)) (trainSection l slots n (drop at (now (text .entry)))) (now (numbers .entry)) (now (first .entry)) (now (last .entry)) (now (numbers .exit)) (now (first .exit)) (now (last .exit)) r ⌝ }
 {
-    let names = read_names(text, at, 3, b"train first last\n");
+    let names = read_names(text, at, 3, &dayfile::TRAIN_NAMES);
     let Step::Next(next) = names else {
         return names;
     };
@@ -357,7 +357,7 @@ fn read_moves(
     requires { ⌜ (line < 1000) × ((n ≤ length (now numbers)) × ((n ≤ width) × (width * width ≤ length (now boxes)))) ⌝ }
     ensures { λ r. ⌜ MovesTo (take n (now (numbers .entry))) width (moveSection l (take n (now (numbers .entry))) line (drop at (now (text .entry)))) (now (boxes .entry)) (now (boxes .exit)) r ⌝ }
 {
-    let names = read_names(text, at, line, b"to from boxes\n");
+    let names = read_names(text, at, line, &dayfile::MOVE_NAMES);
     let Step::Next(next) = names else {
         return names;
     };
@@ -368,13 +368,7 @@ fn read_moves(
 fn read_head(l: Limits, text: &[u8]) -> Line
     ensures { λ r. ⌜ ReadsRow 4 (now (text .entry)) (headSection l (now (text .entry))) r ⌝ }
 {
-    let names = lines::read_line(
-        text,
-        0,
-        1,
-        Due::NamesLine,
-        b"trains tracks slots revisit split\n",
-    );
+    let names = lines::read_line(text, 0, 1, Due::NamesLine, &dayfile::HEAD_NAMES);
     let Line::Names { next } = names else {
         return names;
     };

@@ -26,7 +26,7 @@ fn put_head(out: &mut [u8], trains: u64, tracks: u64, slots: u64, revisit: u64, 
     requires { ⌜ length (headText (trains ∷ tracks ∷ slots ∷ revisit ∷ split ∷ [])) ≤ length (now out) ⌝ }
     ensures { λ r. ⌜ Put (now (out .entry)) (now (out .exit)) 0 r (headText (trains ∷ tracks ∷ slots ∷ revisit ∷ split ∷ [])) ⌝ }
 {
-    let next = lines::put_bytes(out, 0, b"trains tracks slots revisit split\n");
+    let next = lines::put_bytes(out, 0, &dayfile::HEAD_NAMES);
     lines::put_five(out, next, trains, tracks, slots, revisit, split)
 }
 
@@ -43,7 +43,7 @@ fn put_trains(
     requires { ⌜ at + length (trainsText (now numbers) (now first) (now last) n) ≤ length (now out) ⌝ }
     ensures { λ r. ⌜ Put (now (out .entry)) (now (out .exit)) at r (trainsText (now (numbers .entry)) (now (first .entry)) (now (last .entry)) n) ⌝ }
 {
-    let mut next = lines::put_bytes(out, at, b"train first last\n");
+    let mut next = lines::put_bytes(out, at, &dayfile::TRAIN_NAMES);
     for i in 0..n {
         next = lines::put_three(
             out,
@@ -84,7 +84,7 @@ fn put_moves(out: &mut [u8], at: usize, numbers: &[u32], width: usize, boxes: &[
     requires { ⌜ at + length (movesText (now numbers) width (now boxes)) ≤ length (now out) ⌝ }
     ensures { λ r. ⌜ Put (now (out .entry)) (now (out .exit)) at r (movesText (now (numbers .entry)) width (now (boxes .entry))) ⌝ }
 {
-    let mut next = lines::put_bytes(out, at, b"to from boxes\n");
+    let mut next = lines::put_bytes(out, at, &dayfile::MOVE_NAMES);
     let all = width * width;
     for q in 0..all {
         next = put_move(out, next, numbers, width, boxes, q);
