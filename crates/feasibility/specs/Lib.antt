@@ -1,0 +1,8 @@
+pub mod Bound
+pub mod NoRow
+pub mod Earliest
+pub mod Partial
+pub mod Placing
+pub mod RowExists
+pub mod Verdict
+pub mod Search

@@ -1,0 +1,14 @@
+pub mod Workspace
+pub mod Masks
+pub mod Least
+pub mod Schedules
+pub mod Offers
+pub mod Stages
+pub mod Tried
+pub mod Layers
+pub mod Agree
+pub mod Rows
+pub mod Best
+pub mod Chosen
+pub mod Trace
+pub mod Keys

@@ -1,0 +1,60 @@
+-- A loop over the subsets of m, from m down by `s = (s - 1) & m`, that finds the table's cell of r: what the code does at a turn, and what
+-- it has at the end. m may be r itself, or a part of r outside which no set passes the test. `tail` reads the values of the next stage.
+-- Assumes nothing.
+use mathlib.Core.Path.{_≡_, sym, _∙_, subst, subst₂}
+use Prim.Native.Nat.{ℕ, suc, _+_, _-_, _≤_, _<_}
+use native.Mathlib.Omega.{arith}
+use lib.Bits.{bitAnd}
+use lib.Dec.{T}
+use Rattle.sets.specs.Subset.{Sub, walk}
+use Rattle.optimum.specs.Masks.{meet-left, sub-meet}
+use Rattle.optimum.specs.Least.{Least, least-start, least-take, least-keep, least-next, least-widen}
+use Rattle.optimum.specs.Offers.{offer-yes, offer-no, offer-lt}
+use Rattle.optimum.specs.Schedules.{Test, Contribution}
+use Rattle.optimum.specs.Stages.{candidate, cell, cell-found}
+
+-- at stage t, where r remains, the subsets of m from s up are tried: b is the least that they offer, c the largest that offers it
+pub record Tried (ok : Test) (w : Contribution) (inf : ℕ) (tail : ℕ → ℕ) (t r m s b c : ℕ) : Type 0 where
+  pub by : Least inf (candidate ok w inf tail t r) m s b c
+
+pub tried-start : (ok : Test) (w : Contribution) (inf : ℕ) (tail : ℕ → ℕ) (t r m : ℕ) → Tried ok w inf tail t r m (suc m) inf 0
+tried-start ok w inf tail t r m = record { by = least-start inf (candidate ok w inf tail t r) m }
+
+module _ {ok : Test} {w : Contribution} {inf : ℕ} {tail : ℕ → ℕ} {t r m s b c : ℕ} where
+  -- s is tried: it offers x, and that is less
+  pub tried-take : (x : ℕ) → Tried ok w inf tail t r m (suc s) b c → Sub s m → T (ok t r s) → tail (r - s) < inf → x ≡ tail (r - s) + w t r s → x < b
+      → Tried ok w inf tail t r m s x s
+  tried-take x h hs may v e l =
+      let i : candidate ok w inf tail t r s ≡ x = offer-yes inf (ok t r s) (tail (r - s)) (w t r s) may v ∙ sym e in
+      record { by = subst (λ y. Least inf (candidate ok w inf tail t r) m s y s) i (least-take (h .by) hs (omega arith)) }
+
+  -- it is not less
+  pub tried-keep : (x : ℕ) → Tried ok w inf tail t r m (suc s) b c → T (ok t r s) → tail (r - s) < inf → x ≡ tail (r - s) + w t r s → b ≤ x
+      → Tried ok w inf tail t r m s b c
+  tried-keep x h may v e l = record { by = least-keep (h .by) (omega (arith, offer-yes inf (ok t r s) (tail (r - s)) (w t r s) may v)) }
+
+  -- s may not be chosen, or what it leaves has no schedule
+  pub tried-pass : Tried ok w inf tail t r m (suc s) b c → (T (ok t r s) → inf ≤ tail (r - s)) → Tried ok w inf tail t r m s b c
+  tried-pass h none = record { by = least-keep (h .by) (omega (arith, h .by .capped, offer-no inf (ok t r s) (tail (r - s)) (w t r s) none)) }
+
+  -- the same pair under other names, as where branches meet
+  pub tried-is : {b′ c′ : ℕ} → Tried ok w inf tail t r m s b c → b′ ≡ b → c′ ≡ c → Tried ok w inf tail t r m s b′ c′
+  tried-is h e f = subst₂ (λ x y. Tried ok w inf tail t r m s x y) (sym e) (sym f) h
+
+  -- on to the next subset
+  pub tried-next : Tried ok w inf tail t r m s b c → Sub s m → 0 < s → Tried ok w inf tail t r m (suc (walk s m)) b c
+  tried-next h hs p = record { by = least-next (h .by) hs p }
+
+  -- the empty set was the last: the cell is found
+  pub tried-end : Tried ok w inf tail t r m s b c → s ≡ 0 → Sub m r → ((u : ℕ) → Sub u r → T (ok t r u) → Sub u m)
+      → (b ≡ cell ok w inf tail t r .value) × (c ≡ cell ok w inf tail t r .set)
+  tried-end h e q only =
+      cell-found ok w inf tail t r
+      (least-widen r (subst (λ x. Least inf (candidate ok w inf tail t r) m x b c) e (h .by)) q
+      (λ u hu l. only u hu (offer-lt inf (ok t r u) (tail (r - u)) (w t r u) l .0)))
+
+  -- the same where m is what r shares with a set o outside which no set passes
+  pub tried-meet : (o : ℕ) → Tried ok w inf tail t r m s b c → s ≡ 0 → m ≡ bitAnd r o → ((u : ℕ) → T (ok t r u) → Sub u o)
+      → (b ≡ cell ok w inf tail t r .value) × (c ≡ cell ok w inf tail t r .set)
+  tried-meet o h e i only =
+      tried-end h e (subst (λ x. Sub x r) (sym i) (meet-left r o)) (λ u hu may. subst (Sub u) (sym i) (sub-meet u r o hu (only u may)))

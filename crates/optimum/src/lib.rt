@@ -1,0 +1,1 @@
+// The optimum of staged choices: definitions and laws, in specs/. No code.

@@ -1,0 +1,97 @@
+-- The rows that the model allows are the rows of the staged choices whose sets may be served: `allowed-row` and `row-allowed`. The set of
+-- a slot lies in the windows where each of its trains does (12), and has as many ones as the slot has trains (3).
+-- Assumes nothing.
+use mathlib.Core.Path.{_≡_, refl, sym, _∙_, subst}
+use mathlib.Core.Bool.{_&&_}
+use mathlib.Core.List.{List}
+use Prim.Native.Nat.{ℕ, zero, suc, _^_, _≤_, _<_}
+use native.Mathlib.Omega.{arith}
+use lib.Count.{ones}
+use lib.Dec.{T, leb, eqb, leb→le, le→leb, eqb→eq}
+use borrow.Author.Tests.{eq-eqb}
+use Rattle.fold.specs.Test.{of-true, both, both-of}
+use Rattle.sets.specs.Mask.{has, has-mask, mask-lt, ones-mask}
+use Rattle.sets.specs.Subset.{Sub, subset, sub-mask}
+use Rattle.model.specs.Model.{Yard, firstSlot, lastSlot, slotOf, load, allowed}
+use Rattle.model.specs.Rows.{both-le, le-both, allowed-is, is-allowed}
+use Rattle.optimum.specs.Masks.{sub-has}
+use Rattle.optimum.specs.Rows.{stageSet, Row}
+use Rattle.staging.specs.Tables.{openIn, servable}
+
+-- train i may be served in slot t
+abbrev pub InWindow : Yard → ℕ → ℕ → Type 0
+InWindow y t i = (firstSlot y i ≤ t) × (t ≤ lastSlot y i)
+
+-- the rows of the day as staged choices
+abbrev pub DayRow : Yard → List ℕ → Type 0
+DayRow y row = Row (servable y) (y .trains) (y .slots) row
+
+module _ (y : Yard) where
+  pub has-open : (t i : ℕ) → i < y .trains → has (openIn (y .trains) (y .first) (y .last) t) i ≡ (leb (firstSlot y i) t && leb t (lastSlot y i))
+  unfolding openIn
+  has-open t i l = has-mask (y .trains) (λ i. leb (firstSlot y i) t && leb t (lastSlot y i)) i l
+
+  pub open-lt : (t : ℕ) → openIn (y .trains) (y .first) (y .last) t < 2 ^ y .trains
+  unfolding openIn
+  open-lt t = mask-lt (y .trains) λ i. leb (firstSlot y i) t && leb t (lastSlot y i)
+
+  module _ (row : List ℕ) where
+    -- the ones of a slot's set are its trains
+    pub stage-ones : (t : ℕ) → ones (stageSet (y .trains) row t) ≡ load (y .trains) row t
+    unfolding load
+    stage-ones t = ones-mask (y .trains) λ i. eqb (slotOf row i) t
+
+    -- a slot's set lies in the windows exactly where each of its trains does
+    within-windows : (t : ℕ) → ((i : ℕ) → i < y .trains → slotOf row i ≡ t → InWindow y t i)
+        → Sub (stageSet (y .trains) row t) (openIn (y .trains) (y .first) (y .last) t)
+    unfolding openIn
+    within-windows t h =
+        sub-mask (y .trains) (λ i. eqb (slotOf row i) t) (λ i. leb (firstSlot y i) t && leb t (lastSlot y i))
+        (λ i l e. le-both (firstSlot y i) t t (lastSlot y i) (h i l (eqb→eq (slotOf row i) t e)))
+
+    windows-within : (t : ℕ) → Sub (stageSet (y .trains) row t) (openIn (y .trains) (y .first) (y .last) t)
+        → (i : ℕ) → i < y .trains → slotOf row i ≡ t → InWindow y t i
+    windows-within t h i l e =
+        let n = y .trains in
+        let in-set : T (has (stageSet n row t) i) = of-true (has-mask n (λ i. eqb (slotOf row i) t) i l ∙ eq-eqb (slotOf row i) t e) in
+        both-le (firstSlot y i) t t (lastSlot y i)
+        (subst T (has-open t i l) (sub-has n (stageSet n row t) (openIn n (y .first) (y .last) t) h (open-lt t) i l in-set))
+
+    pub allowed-row : T (allowed y row) → DayRow y row
+    allowed-row h =
+        let n = y .trains in
+        let a = allowed-is y row h in
+        record {
+          long = a .long;
+          staged = a .slotted;
+          passes = λ j l.
+              let t = suc j in
+              both (subset (stageSet n row t) (openIn n (y .first) (y .last) t)) (leb (ones (stageSet n row t)) (y .tracks))
+              (of-true (eq-eqb _ _ (within-windows t (λ i k e. subst (λ x. InWindow y x i) e (a .windowed i k)))))
+              (le→leb (ones (stageSet n row t)) (y .tracks) (omega (arith, stage-ones t, a .room j l)));
+        }
+
+    -- of a row's slot: its set is served
+    served : DayRow y row → (j : ℕ) → j < y .slots
+        → Sub (stageSet (y .trains) row (suc j)) (openIn (y .trains) (y .first) (y .last) (suc j)) × (load (y .trains) row (suc j) ≤ y .tracks)
+    served h j l =
+        let n = y .trains in
+        let s = stageSet n row (suc j) in
+        let o = openIn n (y .first) (y .last) (suc j) in
+        let (a, b) = both-of (subset s o) (leb (ones s) (y .tracks)) (h .passes j l) in
+        (eqb→eq _ _ a, omega (arith, stage-ones (suc j), leb→le (ones s) (y .tracks) b))
+
+    pub row-allowed : DayRow y row → T (allowed y row)
+    row-allowed h =
+        is-allowed y row
+        (record {
+          long = h .long;
+          slotted = h .staged;
+          windowed = λ i l. at i l (slotOf row i) refl;
+          room = λ j l. served h j l .1;
+        })
+      where
+        at : (i : ℕ) → i < y .trains → (t : ℕ) → slotOf row i ≡ t → InWindow y (slotOf row i) i
+        at i l zero e = absurd (omega (arith, h .staged i l))
+        at i l (suc j) e =
+            subst (λ x. InWindow y x i) (sym e) (windows-within (suc j) (served h j (omega (arith, h .staged i l)) .0) i l e)

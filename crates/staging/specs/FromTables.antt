@@ -1,0 +1,70 @@
+-- Staged choices that read the filled tables are the day's: test and contribution agree for the sets and slots of the day, so what the
+-- loops have solved over the tables they have solved over the model (`solved-day`).
+-- Assumes nothing.
+use mathlib.Core.Path.{_≡_, refl, ap, ap₂, _∙_}
+use mathlib.Core.Bool.{Bool, true, false, cond, _&&_, and-comm}
+use mathlib.Core.List.{List}
+use Prim.Native.Nat.{ℕ, zero, suc, _+_, _-_, _*_, _^_, _≤_, _<_}
+use native.Mathlib.Omega.{arith}
+use lib.Bits.{bitAnd, and-le-l}
+use lib.Count.{ones}
+use lib.Dec.{T, leb, ltb}
+use lib.ListN.{getD}
+use borrow.Author.Tests.{leb-true, lt-ltb, le-ltb}
+use Rattle.fold.specs.Test.{is-true, both-of}
+use Rattle.sets.specs.Subset.{Sub, subset, sub-le}
+use Rattle.model.specs.Model.{Yard, received}
+use Rattle.optimum.specs.Layers.{Solved}
+use Rattle.optimum.specs.Agree.{solved-agree}
+use Rattle.staging.specs.Tables.{needing, fromOutside, openIn, servable, slotCost, barred, fromTables, costFromTables}
+
+-- the tables of a day, filled for every set of its trains and every slot
+pub record DayTables (y : Yard) (need late price opens : List ℕ) : Type 0 where
+  pub needs : (m : ℕ) → m < 2 ^ y .trains → getD need m 0 ≡ needing (y .trains) (received y) m
+  pub lates : (m : ℕ) → m < 2 ^ y .trains → getD late m 0 ≡ y .revisit * ones m
+  pub prices : (s : ℕ) → s < 2 ^ y .trains
+      → getD price s 0 ≡ cond (leb (ones s) (y .tracks)) (y .split * fromOutside (y .trains) (received y) s) barred
+  -- no set that has room is barred
+  pub under : (s : ℕ) → s < 2 ^ y .trains → ones s ≤ y .tracks → y .split * fromOutside (y .trains) (received y) s < barred
+  pub windows : (j : ℕ) → j < y .slots → getD opens j 0 ≡ openIn (y .trains) (y .first) (y .last) (suc j)
+
+module _ {y : Yard} {need late price opens : List ℕ} (h : DayTables y need late price opens) where
+  -- a set has room, or it has none
+  priced : (s : ℕ) → s < 2 ^ y .trains → leb (ones s) (y .tracks) ≡ true → getD price s 0 ≡ y .split * fromOutside (y .trains) (received y) s
+  priced s l e = h .prices s l ∙ ap (λ b. cond b (y .split * fromOutside (y .trains) (received y) s) barred) e
+
+  roomless : (s : ℕ) → s < 2 ^ y .trains → leb (ones s) (y .tracks) ≡ false → getD price s 0 ≡ barred
+  roomless s l e = h .prices s l ∙ ap (λ b. cond b (y .split * fromOutside (y .trains) (received y) s) barred) e
+
+  has-room : (s : ℕ) → s < 2 ^ y .trains → ltb (getD price s 0) barred ≡ leb (ones s) (y .tracks)
+  has-room s l = at (leb (ones s) (y .tracks)) refl
+    where
+      at : (b : Bool) → leb (ones s) (y .tracks) ≡ b → ltb (getD price s 0) barred ≡ b
+      at true e = lt-ltb (getD price s 0) barred (omega (arith, priced s l e, h .under s l (leb-true (ones s) (y .tracks) e)))
+      at false e = le-ltb (getD price s 0) barred (omega (arith, roomless s l e))
+
+  pub test-agrees : (t r s : ℕ) → 1 ≤ t → t ≤ y .slots → r < 2 ^ y .trains → Sub s r → fromTables price opens t r s ≡ servable y t r s
+  test-agrees zero r s a b l hs = absurd (omega arith)
+  test-agrees (suc j) r s a b l hs =
+      let first : suc j - 1 ≡ j = omega arith in
+      let o = openIn (y .trains) (y .first) (y .last) (suc j) in
+      ap₂ (λ c x. c && subset s x) (has-room s (omega (arith, sub-le s r hs))) (ap (λ i. getD opens i 0) first ∙ h .windows j b)
+      ∙ and-comm (leb (ones s) (y .tracks)) (subset s o)
+
+  pub cost-agrees : (t r s : ℕ) → 1 ≤ t → t ≤ y .slots → r < 2 ^ y .trains → Sub s r → T (servable y t r s)
+      → costFromTables need late price t r s ≡ slotCost y t r s
+  cost-agrees t r s a b l hs may =
+      let o = openIn (y .trains) (y .first) (y .last) t in
+      let room = is-true (leb (ones s) (y .tracks)) (both-of (subset s o) (leb (ones s) (y .tracks)) may .1) in
+      let within : s < 2 ^ y .trains = omega (arith, sub-le s r hs) in
+      let later = needing (y .trains) (received y) (r - s) in
+      ap₂ (λ x z. x + z)
+      (ap (λ x. getD late (bitAnd s x) 0) (h .needs (r - s) (omega arith)) ∙ h .lates (bitAnd s later) (omega (arith, and-le-l s later)))
+      (priced s within room)
+
+  pub solved-day : {inf N : ℕ} {a₀ c₀ a c : List ℕ} → N ≡ 2 ^ y .trains
+      → Solved (fromTables price opens) (costFromTables need late price) inf N (y .slots) 0 a₀ c₀ a c
+      → Solved (servable y) (slotCost y) inf N (y .slots) 0 a₀ c₀ a c
+  solved-day {inf} {N} e =
+      solved-agree (fromTables price opens) (servable y) (costFromTables need late price) (slotCost y) inf N (y .slots)
+      (λ t r s a b l. test-agrees t r s a b (omega arith)) (λ t r s a b l. cost-agrees t r s a b (omega arith))

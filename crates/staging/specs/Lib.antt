@@ -1,0 +1,7 @@
+pub mod Tables
+pub mod AllowedRows
+pub mod CostBySlot
+pub mod BestPlan
+pub mod FromTables
+pub mod Bounds
+pub mod Solution

@@ -1,0 +1,39 @@
+-- Behind the loops over stages and sets, solved for the day: the value that stands for all trains is that of the best plan, to which
+-- the choices lead; and it is below `inf` exactly where a row is allowed, if the costs of all slots together are.
+-- Assumes nothing.
+use mathlib.Core.Path.{_≡_}
+use mathlib.Core.List.{List}
+use Prim.Native.Nat.{ℕ, _-_, _*_, _^_, _≤_, _<_}
+use native.Mathlib.Omega.{arith}
+use lib.Dec.{T}
+use lib.ListN.{getD}
+use Rattle.model.specs.Model.{Yard, allowed, Best}
+use Rattle.optimum.specs.Layers.{Solved}
+use Rattle.optimum.specs.Best.{optimum, row-some}
+use Rattle.optimum.specs.Chosen.{rowIn, Leads, solved-value, solved-leads, solved-best}
+use Rattle.staging.specs.Tables.{servable, slotCost}
+use Rattle.staging.specs.AllowedRows.{allowed-row}
+use Rattle.staging.specs.BestPlan.{best-plan}
+use Rattle.staging.specs.Bounds.{Limited, slotBound, slot-cost-small}
+
+module _ (y : Yard) {a₀ c₀ a c : List ℕ} {inf N : ℕ} (size : N ≡ 2 ^ y .trains) (solved : Solved (servable y) (slotCost y) inf N (y .slots) 0 a₀ c₀ a c) where
+  value : getD a (N - 1) 0 ≡ optimum (servable y) (slotCost y) inf (y .trains) (y .slots)
+  value = solved-value (y .trains) size solved
+
+  module _ (found : getD a (N - 1) 0 < inf) where
+    some : optimum (servable y) (slotCost y) inf (y .trains) (y .slots) < inf
+    some = omega (arith, value)
+
+    pub solution-leads : Leads c (y .trains) (y .slots) N (rowIn c (y .trains) (y .slots) N)
+    solution-leads = solved-leads (y .trains) size solved some
+
+    pub solution-best : Best y (rowIn c (y .trains) (y .slots) N)
+    solution-best = best-plan y (rowIn c (y .trains) (y .slots) N) (solved-best (y .trains) size solved some)
+
+  pub solution-some : {W M B : ℕ} → Limited y W M B → y .slots * slotBound W M B < inf → (row : List ℕ) → T (allowed y row) → getD a (N - 1) 0 < inf
+  solution-some {W} {M} {B} limited fits row h =
+      omega (
+        arith,
+        value,
+        row-some (servable y) (slotCost y) inf (y .trains) (y .slots) (slotBound W M B) (slot-cost-small limited) fits row (allowed-row y row h),
+      )

@@ -1,0 +1,54 @@
+-- The model as staged choices: at slot t, where the set r of trains remains, the set s is served. Which sets may be served, and what one
+-- costs: equation (1) by slots. With the tables over sets that the code fills.
+-- Assumes nothing.
+use mathlib.Core.Bool.{Bool, cond, _&&_}
+use mathlib.Core.List.{List}
+use Prim.Native.Nat.{ℕ, _+_, _-_, _*_}
+use lib.Bits.{bitAnd}
+use lib.Count.{ones}
+use lib.Dec.{leb, ltb}
+use lib.ListN.{getD}
+use Rattle.fold.specs.Fold.{sum, some}
+use Rattle.sets.specs.Mask.{has, mask}
+use Rattle.sets.specs.Subset.{subset}
+use Rattle.model.specs.Model.{Yard, received, supplies, firstSlot, lastSlot}
+use Rattle.optimum.specs.Schedules.{Test, Contribution}
+
+-- ---- of n trains that receive a i j boxes from each other
+
+-- the trains with a supplier in m
+unfoldable pub needing : ℕ → (ℕ → ℕ → ℕ) → ℕ → ℕ
+needing n a m = mask n λ i. some n λ j. has m j && supplies a i j
+
+-- the boxes that the trains of s receive from trains outside s
+unfoldable pub fromOutside : ℕ → (ℕ → ℕ → ℕ) → ℕ → ℕ
+fromOutside n a s = sum n λ i. cond (has s i) (sum n λ j. cond (has s j) 0 (a i j)) 0
+
+-- the trains whose windows hold slot t
+unfoldable pub openIn : ℕ → List ℕ → List ℕ → ℕ → ℕ
+openIn n first last t = mask n λ i. leb (getD first i 0) t && leb t (getD last i 0)
+
+-- ---- the stages of a day
+
+-- s may be served in slot t: its windows hold t (12), and it has at most one train to a track (3)
+abbrev pub servable : Yard → Test
+servable y t r s = subset s (openIn (y .trains) (y .first) (y .last) t) && leb (ones s) (y .tracks)
+
+-- the trains of s whose suppliers are served later revisit, (4); the boxes that s receives from outside are split, (5)
+abbrev pub lateTrains : Yard → ℕ → ℕ → ℕ
+lateTrains y r s = ones (bitAnd s (needing (y .trains) (received y) (r - s)))
+
+abbrev pub slotCost : Yard → Contribution
+slotCost y t r s = y .revisit * lateTrains y r s + y .split * fromOutside (y .trains) (received y) s
+
+-- ---- the same from tables: trains with a supplier in each set, what the revisits of each set cost, what its split moves cost or
+-- `barred` where it has more trains than tracks, the trains that may be served in each slot
+
+abbrev pub barred : ℕ
+barred = 4294967295
+
+abbrev pub fromTables : List ℕ → List ℕ → Test
+fromTables price opens t r s = ltb (getD price s 0) barred && subset s (getD opens (t - 1) 0)
+
+abbrev pub costFromTables : List ℕ → List ℕ → List ℕ → Contribution
+costFromTables need late price t r s = getD late (bitAnd s (getD need (r - s) 0)) 0 + getD price s 0

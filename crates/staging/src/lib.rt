@@ -1,0 +1,1 @@
+// The model as staged choices: specifications only, in specs/.

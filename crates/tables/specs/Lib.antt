@@ -1,0 +1,5 @@
+pub mod Given
+pub mod Entries
+pub mod Filled
+pub mod Needing
+pub mod Costs
