@@ -1,17 +1,16 @@
 -- The sections of a day file as the code's loops read them: what has been read so far, and what is left to read.
 -- Assumes nothing.
 use mathlib.Core.Bool.{not, _&&_}
-use mathlib.Core.Path.{_≡_, refl, sym, ap, ap₂, _∙_, subst}
+use mathlib.Core.Path.{_≡_, refl, sym, ap, ap₂, _∙_}
 use mathlib.Core.List.{List, [], _∷_, _++_, map, append-assoc, append-nil}
 use Prim.Native.Nat.{ℕ, zero, suc, _+_, _-_, _*_, _≤_, _<_}
 use native.Mathlib.Numerals.{add-one}
 use native.Mathlib.Omega.{arith}
 use lib.Dec.{eqb, ltb→lt}
 use lib.ListN.{length, getD, set, drop, length-append, length-drop, length-map}
-use lib.Seq.{drop-cons, set-at, drop-append-le}
+use lib.Seq.{drop-cons, set-at}
 use Rattle.fold.specs.Test.{both-of}
 use Rattle.day.specs.Answer.{Answer, gives, refuses, refusal}
-use Rattle.day.specs.AnswerLaws.{AllHold}
 use Rattle.day.specs.Sound.{trainRanges, moveRanges}
 use Rattle.day.specs.SoundLaws.{within-is}
 use Rattle.day.specs.declared.Limits.{Limits}
@@ -19,8 +18,8 @@ use Rattle.day.specs.declared.Refusal.{Refusal}
 use Rattle.lines.specs.Lines.{rowText}
 use Rattle.lines.specs.declared.Line.{Line}
 use Rattle.lines.specs.declared.Line.the-variants.{Names, Row, End, Refused}
-use Rattle.dayfile.specs.Reading.{field1, field2, field3, trainChecks, onward, RowRest, readRow, Rows, addRow, readTrains, readMoves, moveChecks, position, isListed, stored, placeOf, File, readFile, headSection, trainSection, moveSection, headChecks, readNames}
-use Rattle.dayfile.specs.Files.{RowLine, row-line-read, moves-end, moves-row, row-longer}
+use Rattle.dayfile.specs.Reading.{field1, field2, field3, trainChecks, onward, RowRest, readRow, Rows, addRow, readTrains, readMoves, moveChecks, position, isListed, stored, placeOf}
+use Rattle.dayfile.specs.Files.{row-line-read, moves-end, moves-row, row-longer}
 use Rattle.dayread.specs.Steps.{rowRest, RowTo}
 use Rattle.dayread.specs.declared.Step.{Step}
 use Rattle.dayread.specs.declared.Step.the-variants.{Next, Refused as Stopped}

@@ -1,21 +1,20 @@
 -- What the reading steps answer, as the code's lines and places, and how an answer of the line reader becomes one: a form that is
 -- refused is handed up, a row that was read goes on to its checks.
 -- Assumes nothing.
-use mathlib.Core.Path.{_≡_, refl, sym, ap, ap₂, _∙_, subst}
-use mathlib.Core.Bool.{Bool, true, false, cond}
+use mathlib.Core.Path.{_≡_, refl, ap, _∙_}
 use mathlib.Core.List.{List, [], _∷_}
 use mathlib.Core.Logic.{_⊎_, inl, inr}
-use Prim.Native.Nat.{ℕ, zero, suc, _≤_}
+use Prim.Native.Nat.{ℕ, suc, _≤_}
 use native.Mathlib.Omega.{arith}
 use lib.Dec.{eqb}
 use lib.ListN.{length, getD, take, drop}
 use lib.Seq.{length-take-le, getD-take}
-use Rattle.day.specs.Answer.{Answer, gives, refuses, number, carried, refusal, Check, checked}
+use Rattle.day.specs.Answer.{Answer, gives, number, carried, refusal, Check, checked}
 use Rattle.day.specs.declared.Refusal.{Refusal}
 use Rattle.decimal.specs.Parsed.{Parsed, fail, got}
-use Rattle.lines.specs.Lines.{names, row}
+use Rattle.lines.specs.Lines.{row}
 use Rattle.lines.specs.Laws.{row-read}
-use Rattle.lines.specs.Reader.{Found, aNamesLine, aRow, theEnd, aRefusal, namesFound, rowFound, found, RowAt, Answers}
+use Rattle.lines.specs.Reader.{aNamesLine, aRow, theEnd, aRefusal, namesFound, rowFound, found, RowAt}
 use Rattle.lines.specs.declared.Due.the-variants.{RowOrEnd}
 use Rattle.lines.specs.declared.Line.{Line}
 use Rattle.lines.specs.declared.Line.the-variants.{Names, Row, End, Refused}
@@ -24,7 +23,7 @@ use Rattle.dayread.specs.declared.Verdict.{Verdict}
 use Rattle.dayread.specs.declared.Verdict.the-variants.{Fine, Broken}
 use Rattle.fold.specs.Fold.{lowest}
 use Rattle.fold.specs.Sums.{lowest-ext}
-use Rattle.dayfile.specs.Reading.{orRefuse, readNames, RowRest, readRow, position}
+use Rattle.dayfile.specs.Reading.{orRefuse, RowRest, readRow, position}
 
 -- ---- one row of k + 1 values, read up to the place `next` of the text t, or the refusal
 

@@ -1,19 +1,18 @@
 -- The whole text: the sections, once read, give the day; a section that is refused gives the refusal beside zeros.
 -- Assumes nothing.
-use mathlib.Core.Path.{_≡_, refl, sym, ap, ap₂, _∙_}
+use mathlib.Core.Path.{_≡_, sym, ap, _∙_}
 use mathlib.Core.List.{List, [], _∷_, _++_, map}
 use Prim.Native.Nat.{ℕ, zero, suc, _+_, _-_, _*_, _≤_}
 use native.Mathlib.Omega.{arith}
-use lib.Dec.{T}
-use lib.ListN.{length, getD, take, drop, replicate, length-map}
+use lib.ListN.{length, take, drop, replicate, length-map}
 use lib.Seq.{take-append-seam}
 use Rattle.model.specs.Model.{Yard}
-use Rattle.day.specs.Answer.{Answer, gives, refuses, refusal}
-use Rattle.day.specs.Sound.{within, headRanges}
+use Rattle.day.specs.Answer.{Answer, gives, refusal}
+use Rattle.day.specs.Sound.{headRanges}
 use Rattle.day.specs.SoundLaws.{within-is}
 use Rattle.day.specs.declared.Limits.{Limits}
 use Rattle.day.specs.declared.Refusal.{Refusal}
-use Rattle.dayfile.specs.Reading.{field1, field2, field3, onward, RowRest, headChecks, headNames, readNames, readRow, Rows, File, headSection, trainSection, moveSection, readFile, padded, stored, dayOf, readDay}
+use Rattle.dayfile.specs.Reading.{field1, field2, field3, headChecks, headNames, readNames, readRow, headSection, trainSection, moveSection, readFile, padded, dayOf, readDay}
 use Rattle.dayfile.specs.Files.{onward-gives, row-line-read}
 use Rattle.dayfile.specs.Calls.{zeroDay, dayOrZero}
 use Rattle.dayread.specs.Steps.{rowRest, RowTo}

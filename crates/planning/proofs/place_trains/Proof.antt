@@ -1,0 +1,55 @@
+-- `planning::place_trains` meets its contract. The choices lead to the best row, since some row is allowed.
+-- Assumes nothing.
+use mathlib.Core.Path.{sym, ap, _∙_, subst}
+use mathlib.Core.Option.{some}
+use Prim.Native.Nat.{_≤_, _*_}
+use Rattle.day.specs.Sound.{dayLimits, yard}
+use Rattle.day.specs.SoundLaws.{sound-is}
+use Rattle.planning.specs.Laws.{leads, best-found}
+use borrow.Author.Needs.{needs}
+use Rattle.planning.proofs.place_trains.Statement.{statement}
+use Rattle.planning.proofs.place_trains.Tie as tie
+
+solve-day-requires : tie.Need-solve-day-requires
+solve-day-requires c κs = (c .before .before .before .before .before .pre .0, (c .before .before .before .before .before .pre .1 .1 .0, (c .before .before .before .before .before .pre .1 .1 .1 .0, c .before .before .before .before .before .pre .1 .1 .1 .1 .0)))
+
+cast-trace : tie.Need-cast-trace
+cast-trace c = search needs
+
+trace-requires : tie.Need-trace-requires
+trace-requires c κs =
+    let a = c .before .before .before .before .before .before .before .before .before .before .before .before .before .args in
+    let pre = c .before .before .before .before .before .before .before .before .before .before .before .before .before .pre in
+    let h = sound-is dayLimits (yard (a .day)) (pre .0) in
+    let long = subst (λ k. a .day .slots * a .size ≤ k) (sym (c .before .before .before .before .before .before .before .solve-day .kept .1 .1 .0)) (pre .1 .1 .1 .1 .0) in
+    (pre .1 .1 .0, h .trains .1, h .slots .1, pre .1 .1 .1 .1 .1, long, leads (yard (a .day)) (pre .0) (pre .1 .1 .0) (pre .1 .0) (c .before .before .before .before .before .before .before .solve-day .ensures))
+
+same-length : tie.Need-same-length
+same-length c = search needs
+
+same-length-2 : tie.Need-same-length-2
+same-length-2 c = search needs
+
+same-length-3 : tie.Need-same-length-3
+same-length-3 c = search needs
+
+returns : tie.Need-returns
+returns c =
+    let a = c .before .before .before .before .before .before .before .before .before .before .before .before .before .before .before .before .args in
+    let pre = c .before .before .before .before .before .before .before .before .before .before .before .before .before .before .before .before .pre in
+    let s = c .before .before .before .before .before .before .before .before .before .before .solve-day .ensures in
+    let t = c .before .before .trace .ensures in
+    let b = best-found (yard (a .day)) (pre .0) (pre .1 .1 .0) (pre .1 .0) s in
+    record { best = b ∙ ap some (sym (t .0)); rest = t .1; costs = s .kept .rest; choices = s .choices .kept .rest }
+
+pub place-trains-spec : {M : Type 1} → statement M
+place-trains-spec =
+    tie.close
+    (tie.spec
+    solve-day-requires
+    cast-trace
+    trace-requires
+    same-length
+    same-length-2
+    same-length-3
+    returns)

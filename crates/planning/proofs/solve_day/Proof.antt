@@ -1,0 +1,148 @@
+-- `planning::solve_day` meets its contract. The four tables are those of the day (staging's `DayTables`), so solving them solves the day (`solved-day`).
+-- Assumes nothing.
+use mathlib.Core.Path.{_≡_, sym, subst}
+use Prim.Native.Nat.{ℕ, _^_, _≤_, _<_}
+use native.Mathlib.Nat.{pow-le-pow-right}
+use native.Mathlib.Omega.{arith}
+use lib.Dec.{lit≤}
+use Rattle.day.specs.Sound.{dayLimits, yard}
+use Rattle.day.specs.SoundLaws.{Sound, Shaped, sound-is, sound-tests, shaped-is}
+use Rattle.staging.specs.FromTables.{DayTables, solved-day}
+use Rattle.tables.specs.Given.{Given}
+use borrow.Author.Needs.{needs}
+use Rattle.planning.proofs.solve_day.Statement.{statement}
+use Rattle.planning.proofs.solve_day.Tie as tie
+
+-- what a sound day says
+least : (c : tie.Start) → Sound dayLimits (yard (c .args .day))
+least c = sound-is dayLimits (yard (c .args .day)) (c .pre .0)
+
+sizes : (c : tie.Start) → Shaped dayLimits (yard (c .args .day))
+sizes c = shaped-is dayLimits (yard (c .args .day)) (sound-tests dayLimits (yard (c .args .day)) (c .pre .0) .0)
+
+-- at most 4,096 sets
+small : (c : tie.Start) → c .args .size ≤ 4096
+small c =
+    let most : 2 ^ c .args .day .trains ≤ 2 ^ 12 = pow-le-pow-right (lit≤ tt) (least c .trains .1) in
+    omega (arith, most, c .pre .1 .0)
+
+given : (c : tie.Start) → Given (c .args .day .trains) 12 (c .args .day .boxes)
+given c = record { few = least c .trains .1; narrow = least c .trains .1; whole = omega (arith, sizes c .boxes) }
+
+cast-slots : tie.Need-cast-slots
+cast-slots c = search needs
+
+slice-aggregate-fill-needing : tie.Need-slice-aggregate-fill-needing
+slice-aggregate-fill-needing c = search needs
+
+slice-aggregate-fill-needing-2 : tie.Need-slice-aggregate-fill-needing-2
+slice-aggregate-fill-needing-2 c = search needs
+
+fill-needing-requires : tie.Need-fill-needing-requires
+fill-needing-requires c κs = (given (c .before .before .before .before .before .before .before .before), subst (λ k. k ≤ 4096) (c .before .before .before .before .before .before .before .before .pre .1 .0) (small (c .before .before .before .before .before .before .before .before)))
+
+slice-aggregate-fill-late : tie.Need-slice-aggregate-fill-late
+slice-aggregate-fill-late c = search needs
+
+fill-late-requires : tie.Need-fill-late-requires
+fill-late-requires c κs = (least (c .before .before .before .before .before .before .before .before .before .before .before) .weights .0, small (c .before .before .before .before .before .before .before .before .before .before .before), small (c .before .before .before .before .before .before .before .before .before .before .before))
+
+slice-aggregate-fill-price : tie.Need-slice-aggregate-fill-price
+slice-aggregate-fill-price c = search needs
+
+slice-aggregate-fill-price-2 : tie.Need-slice-aggregate-fill-price-2
+slice-aggregate-fill-price-2 c = search needs
+
+fill-price-requires : tie.Need-fill-price-requires
+fill-price-requires c κs = (given (c .before .before .before .before .before .before .before .before .before .before .before .before .before .before .before), least (c .before .before .before .before .before .before .before .before .before .before .before .before .before .before .before) .weights .1, small (c .before .before .before .before .before .before .before .before .before .before .before .before .before .before .before), small (c .before .before .before .before .before .before .before .before .before .before .before .before .before .before .before))
+
+slice-aggregate-fill-open : tie.Need-slice-aggregate-fill-open
+slice-aggregate-fill-open c = search needs
+
+slice-aggregate-fill-open-2 : tie.Need-slice-aggregate-fill-open-2
+slice-aggregate-fill-open-2 c = sym (sizes (c .before .before .before .before .before .before .before .before .before .before .before .before .before .before .before .before .before .before .before) .first)
+
+slice-aggregate-fill-open-3 : tie.Need-slice-aggregate-fill-open-3
+slice-aggregate-fill-open-3 c = sym (sizes (c .before .before .before .before .before .before .before .before .before .before .before .before .before .before .before .before .before .before .before .before) .last)
+
+fill-open-requires : tie.Need-fill-open-requires
+fill-open-requires c κs =
+    let n : c .before .before .before .before .before .before .before .before .before .before .before .before .before .before .before .before .before .before .before .before .args .day .trains ≤ 12 = least (c .before .before .before .before .before .before .before .before .before .before .before .before .before .before .before .before .before .before .before .before) .trains .1 in
+    let t : c .before .before .before .before .before .before .before .before .before .before .before .before .before .before .before .before .before .before .before .before .args .day .slots ≤ 8 = least (c .before .before .before .before .before .before .before .before .before .before .before .before .before .before .before .before .before .before .before .before) .slots .1 in
+    (n, omega (arith, sizes (c .before .before .before .before .before .before .before .before .before .before .before .before .before .before .before .before .before .before .before .before) .first, n), omega (arith, sizes (c .before .before .before .before .before .before .before .before .before .before .before .before .before .before .before .before .before .before .before .before) .last, n), omega arith, t)
+
+slice-aggregate-solve : tie.Need-slice-aggregate-solve
+slice-aggregate-solve c = search needs
+
+slice-aggregate-solve-2 : tie.Need-slice-aggregate-solve-2
+slice-aggregate-solve-2 c = search needs
+
+slice-aggregate-solve-3 : tie.Need-slice-aggregate-solve-3
+slice-aggregate-solve-3 c = search needs
+
+slice-aggregate-solve-4 : tie.Need-slice-aggregate-solve-4
+slice-aggregate-solve-4 c = search needs
+
+solve-requires : tie.Need-solve-requires
+solve-requires c κs =
+    let s = c .before .before .before .before .before .before .before .before .before .before .before .before .before .before .before .before .before .before .before .before .before .before .before .before .before .before .before .before in
+    let long : (k : ℕ) → k ≡ 4096 → s .args .size ≤ k = λ k e. omega (arith, small s) in
+    let slots : s .args .day .slots ≤ 8 = least s .slots .1 in (
+      record {
+        few = small s;
+        short = slots;
+        needs = long _ (c .before .before .before .before .before .before .before .before .before .before .before .before .before .before .before .before .before .before .before .fill-needing .kept .0);
+        lates = long _ (c .before .before .before .before .before .before .before .before .before .before .before .before .before .before .before .before .fill-late .kept .0);
+        prices = long _ (c .before .before .before .before .before .before .before .before .before .before .before .before .fill-price .kept .0);
+        opened = subst (λ k. s .args .day .slots ≤ k) (sym (c .before .before .before .before .before .before .before .fill-open .kept .0)) slots;
+        small = c .before .before .before .before .before .before .before .before .before .before .before .before .before .before .before .before .fill-late .ensures .1;
+      },
+      s .pre .1 .1 .0,
+      s .pre .1 .1 .1,
+    )
+
+same-length : tie.Need-same-length
+same-length c = search needs
+
+same-length-2 : tie.Need-same-length-2
+same-length-2 c = search needs
+
+returns : tie.Need-returns
+returns c =
+    let s = c .before .before .before .before .before .before .before .before .before .before .before .before .before .before .before .before .before .before .before .before .before .before .before .before .before .before .before .before .before .before .before .before .before in
+    let n = s .pre .1 .0 in
+    let below : (m : ℕ) → m < 2 ^ s .args .day .trains → m < s .args .size = λ m h. omega (arith, n) in
+    let tables : DayTables (yard (s .args .day)) (c .before .before .before .before .before .before .before .before .before .before .before .before .before .before .before .before .before .before .before .before .before .before .before .before .fill-needing .last .0) (c .before .before .before .before .before .before .before .before .before .before .before .before .before .before .before .before .before .before .before .before .before .fill-late .last .0) (c .before .before .before .before .before .before .before .before .before .before .before .before .before .before .before .before .before .fill-price .last .0) (c .before .before .before .before .before .before .before .before .before .before .before .before .fill-open .last .0) = record {
+      needs = c .before .before .before .before .before .before .before .before .before .before .before .before .before .before .before .before .before .before .before .before .before .before .before .before .fill-needing .ensures .all;
+      lates = λ m h. c .before .before .before .before .before .before .before .before .before .before .before .before .before .before .before .before .before .before .before .before .before .fill-late .ensures .0 .all m (below m h);
+      prices = λ m h. c .before .before .before .before .before .before .before .before .before .before .before .before .before .before .before .before .before .fill-price .ensures .0 .all m (below m h);
+      under = λ m h o. omega (arith, c .before .before .before .before .before .before .before .before .before .before .before .before .before .before .before .before .before .fill-price .ensures .1 m (below m h) o);
+      windows = c .before .before .before .before .before .before .before .before .before .before .before .before .fill-open .ensures .all;
+    } in
+    solved-day tables n (c .before .before .before .before .solve .ensures)
+
+pub solve-day-spec : {M : Type 1} → statement M
+solve-day-spec =
+    tie.close
+    (tie.spec
+    cast-slots
+    slice-aggregate-fill-needing
+    slice-aggregate-fill-needing-2
+    fill-needing-requires
+    slice-aggregate-fill-late
+    fill-late-requires
+    slice-aggregate-fill-price
+    slice-aggregate-fill-price-2
+    fill-price-requires
+    slice-aggregate-fill-open
+    slice-aggregate-fill-open-2
+    slice-aggregate-fill-open-3
+    fill-open-requires
+    slice-aggregate-solve
+    slice-aggregate-solve-2
+    slice-aggregate-solve-3
+    slice-aggregate-solve-4
+    solve-requires
+    same-length
+    same-length-2
+    returns)

@@ -1,0 +1,126 @@
+-- How the planning call's parts come to its answer: the bounds of a sound day, the best row behind the solved table, and each of the
+-- answers that the code gives.
+-- Assumes nothing.
+use mathlib.Core.Path.{_≡_, sym, ap, _∙_, subst}
+use mathlib.Core.Bool.{Bool, true, false, not, cond, _&&_}
+use mathlib.Core.List.{List, [], _∷_, _++_}
+use mathlib.Core.Option.{some}
+use Prim.Native.Nat.{ℕ, _-_, _*_, _^_, _≤_, _<_}
+use native.Mathlib.Nat.{le-trans}
+use native.Mathlib.Omega.{arith}
+use lib.Dec.{T, leb, ltb, eqb, leb→le, eqb→eq}
+use lib.ListN.{length, getD, take, drop, take-append-drop}
+use lib.Seq.{length-take-le}
+use Rattle.fold.specs.Fold.{each-at}
+use Rattle.model.specs.Model.{Yard, cell, Outcome, outcome, boundInside, allowed}
+use Rattle.model.specs.BestOf.{bestOf, best-is, none-is}
+use Rattle.model.specs.Overbooked.{Interval, firstOverbooked}
+use Rattle.day.specs.Answer.{Answer, gives, refuses}
+use Rattle.day.specs.Sound.{dayLimits, receiverSound, pairSound, sound}
+use Rattle.day.specs.SoundLaws.{sound-is, sound-tests}
+use Rattle.day.specs.declared.Limits.{Limits}
+use Rattle.feasibility.specs.Verdict.{SomeRow, some-no-row}
+use Rattle.optimum.specs.Layers.{Solved}
+use Rattle.optimum.specs.Chosen.{rowIn, Leads}
+use Rattle.staging.specs.Tables.{servable, slotCost}
+use Rattle.staging.specs.Bounds.{Limited, noCost, slots-fit}
+use Rattle.staging.specs.Solution.{solution-leads, solution-best, solution-some}
+use Rattle.planning.specs.Planning.{costWords, choiceWords, bestAnswer, suffices, planned, begins, placed, rowAfter, openWords, Stays}
+
+-- ---- a sound day is within the bounds of the tables
+
+pair-limit : (l : Limits) (n width : ℕ) (boxes : List ℕ) (i j : ℕ) → T (pairSound l n width boxes i j) → cell width boxes i j ≤ l .boxes
+unfolding pairSound
+pair-limit l n width boxes i j t = go (ltb i n && ltb j n && not (eqb i j)) t
+  where
+    go : (b : Bool) → T (cond b (leb (cell width boxes i j) (l .boxes)) (eqb (cell width boxes i j) 0)) → cell width boxes i j ≤ l .boxes
+    go true h = leb→le (cell width boxes i j) (l .boxes) h
+    go false h = omega (arith, eqb→eq (cell width boxes i j) 0 h)
+
+pub limited : (l : Limits) (y : Yard) → T (sound l y) → Limited y (l .weight) (l .trains) (l .boxes)
+unfolding receiverSound
+limited l y s =
+    let h = sound-is l y s in
+    let (shape, head, positions, boxes) = sound-tests l y s in
+    record {
+      revisit = h .weights .0;
+      split = h .weights .1;
+      trains = h .trains .1;
+      boxes = λ i j a b.
+          pair-limit l (y .trains) (y .width) (y .boxes) i j
+          (each-at (l .trains) (pairSound l (y .trains) (y .width) (y .boxes) i) (each-at (l .trains) (receiverSound l (y .trains) (y .width) (y .boxes)) boxes i (le-trans a (h .trains .1))) j (le-trans b (h .trains .1)));
+    }
+
+-- ---- the best row behind the solved table
+
+module _ (y : Yard) {N : ℕ} {a₀ c₀ a c : List ℕ} (s : T (sound dayLimits y)) (size : N ≡ 2 ^ y .trains) (some-row : SomeRow y)
+    (solved : Solved (servable y) (slotCost y) noCost N (y .slots) 0 a₀ c₀ a c) where
+  found : getD a (N - 1) 0 < noCost
+  found =
+      let h = sound-is dayLimits y s in
+      let short : y .slots ≤ 8 = h .slots .1 in
+      solution-some y size solved (limited dayLimits y s) (slots-fit (y .slots) (omega arith)) (some-row .0) (some-row .1)
+
+  pub leads : Leads c (y .trains) (y .slots) N (rowIn c (y .trains) (y .slots) N)
+  leads = solution-leads y size solved found
+
+  pub best-found : bestOf y ≡ some (rowIn c (y .trains) (y .slots) N)
+  best-found = best-is y (rowIn c (y .trains) (y .slots) N) (solution-best y size solved found)
+
+-- ---- the answers, from what the code has found
+
+module _ (y : Yard) where
+  -- an overbooked interval: no row is allowed
+  pub says-nine : (w : Interval) (row : List ℕ) → firstOverbooked y ≡ some w
+      → (refuses 9 (w .first ∷ w .last ∷ boundInside y (w .first) (w .last) ∷ []) ≡ bestAnswer y (bestOf y)) × (row ≡ placed (bestOf y) row)
+  says-nine w row e = let n = none-is y (some-no-row y w e) in (rw (n, e), rw n)
+
+  -- the best row stands in the first n bytes
+  pub says-plan : (row₀ row : List ℕ) → bestOf y ≡ some (take (y .trains) row) → drop (y .trains) row ≡ drop (y .trains) row₀ → y .trains ≤ length row
+      → (gives (outcome y (take (y .trains) row)) ≡ bestAnswer y (bestOf y)) × (row ≡ placed (bestOf y) row₀)
+  says-plan row₀ row b d long = (
+    rw b,
+    sym (take-append-drop (y .trains) row) ∙ ap (λ (r : List ℕ). take (y .trains) row ++ r) d
+        ∙ ap (λ k. take (y .trains) row ++ drop k row₀) (sym (length-take-le (y .trains) row long))
+        ∙ sym (ap (λ o. placed o row₀) b),
+  )
+
+-- the best row is in the first n bytes of the row, which is otherwise unchanged; of the areas only the words of the sets are used
+pub record Placed (y : Yard) (size : ℕ) (cost₀ choice₀ row₀ cost choice row : List ℕ) : Type 0 where
+  pub best : bestOf y ≡ some (take (y .trains) row)
+  pub rest : drop (y .trains) row ≡ drop (y .trains) row₀
+  pub costs : Stays size cost₀ cost
+  pub choices : Stays (y .slots * size) choice₀ choice
+
+-- a sound day with areas that suffice: the best plan or 9
+pub record Decided (y : Yard) (size : ℕ) (cost₀ choice₀ row₀ : List ℕ) (said : Answer Outcome) (cost choice row : List ℕ) : Type 0 where
+  pub says : said ≡ bestAnswer y (bestOf y)
+  pub rowIs : row ≡ placed (bestOf y) row₀
+  pub costs : Stays size cost₀ cost
+  pub choices : Stays (y .slots * size) choice₀ choice
+
+-- what the call leaves: the answer, the row, and all words of the areas but those that are open
+pub record Left (l : Limits) (y : Yard) (cost₀ choice₀ row₀ : List ℕ) (said : Answer Outcome) (cost choice row : List ℕ) : Type 0 where
+  pub says : said ≡ planned l y (length cost₀) (length choice₀) (length row₀)
+  pub rowIs : row ≡ rowAfter l y (length cost₀) (length choice₀) row₀
+  pub costs : Stays (openWords (begins l y (length cost₀) (length choice₀) (length row₀)) (costWords y)) cost₀ cost
+  pub choices : Stays (openWords (begins l y (length cost₀) (length choice₀) (length row₀)) (choiceWords y)) choice₀ choice
+
+module _ (l : Limits) (y : Yard) (cost choice row : List ℕ) where
+  pub left-unsound : sound l y ≡ false → Left l y cost choice row (refuses 8 (0 ∷ [])) cost choice row
+  unfolding planned rowAfter
+  left-unsound s = record { says = simp s; rowIs = simp s; costs = simp s; choices = simp s }
+
+  pub left-short : sound l y ≡ true → suffices y (length cost) (length choice) (length row) ≡ false → Left l y cost choice row (refuses 10 (0 ∷ [])) cost choice row
+  unfolding planned rowAfter
+  left-short s e = record { says = rw (s, e); rowIs = rw (s, e); costs = rw (s, e); choices = rw (s, e) }
+
+  pub left-best : {size : ℕ} {said : Answer Outcome} {cost′ choice′ row′ : List ℕ} → size ≡ 2 ^ y .trains → sound l y ≡ true → suffices y (length cost) (length choice) (length row) ≡ true
+      → Decided y size cost choice row said cost′ choice′ row′ → Left l y cost choice row said cost′ choice′ row′
+  unfolding planned rowAfter
+  left-best {size} {said} {cost′} {choice′} {row′} n s e d = record {
+    says = rw (s, e) (d .says);
+    rowIs = rw (s, e) (d .rowIs);
+    costs = rw (s, e) (subst (λ k. Stays k cost cost′) n (d .costs));
+    choices = rw (s, e) (subst (λ k. Stays (y .slots * k) choice choice′) n (d .choices));
+  }

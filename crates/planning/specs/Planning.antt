@@ -1,0 +1,75 @@
+-- What the planning call answers, for any record and any areas: the checks 8 and 10 of document 01, then the best plan, or 9 with the
+-- first overbooked interval; and what it leaves in lent memory.
+-- Assumes nothing.
+use mathlib.Core.Path.{_≡_}
+use mathlib.Core.Bool.{Bool, cond, _&&_}
+use mathlib.Core.List.{List, [], _∷_, _++_}
+use mathlib.Core.Option.{Option, none, some}
+use Prim.Native.Nat.{ℕ, _*_, _^_}
+use lib.Dec.{leb}
+use lib.ListN.{length, drop}
+use Rattle.model.specs.Model.{Yard, Outcome, outcome, boundInside}
+use Rattle.model.specs.BestOf.{bestOf}
+use Rattle.model.specs.Overbooked.{Interval, firstOverbooked}
+use Rattle.day.specs.Sound.{sound}
+use Rattle.day.specs.Answer.{Answer, gives, refuses, refusal, Check, must, checked}
+use Rattle.day.specs.declared.Limits.{Limits}
+use Rattle.valuing.specs.Valuing.{outcomeOf}
+use Rattle.planning.specs.declared.Planned.{Planned}
+use Rattle.planning.specs.declared.Planned.the-variants.{Plan, Refused}
+
+-- ---- the code's answer in 01's numbers
+
+abbrev pub answer : Planned → Answer Outcome
+answer (Plan v) = gives (outcomeOf v)
+answer (Refused r) = refusal r
+
+-- ---- the words that planning needs of the two areas: 2^n of cost, T × 2^n of choice
+
+abbrev pub costWords : Yard → ℕ
+costWords y = 2 ^ y .trains
+
+abbrev pub choiceWords : Yard → ℕ
+choiceWords y = y .slots * 2 ^ y .trains
+
+-- the areas and the row are long enough
+abbrev pub suffices : Yard → ℕ → ℕ → ℕ → Bool
+suffices y costs choices slots = leb (costWords y) costs && leb (choiceWords y) choices && leb (y .trains) slots
+
+-- ---- the answer
+
+-- 9 carries the interval and the trains bound inside. (That a day without a plan has one is `plan-refused` of Demand.antt.)
+abbrev pub carriedBy : Yard → Option Interval → List ℕ
+carriedBy y (some w) = w .first ∷ w .last ∷ boundInside y (w .first) (w .last) ∷ []
+carriedBy y none = []
+
+abbrev pub bestAnswer : Yard → Option (List ℕ) → Answer Outcome
+bestAnswer y (some row) = gives (outcome y row)
+bestAnswer y none = refuses 9 (carriedBy y (firstOverbooked y))
+
+abbrev pub planChecks : Limits → Yard → ℕ → ℕ → ℕ → List Check
+planChecks l y costs choices slots = must (sound l y) 8 (0 ∷ []) ∷ must (suffices y costs choices slots) 10 (0 ∷ []) ∷ []
+
+unfoldable pub planned : Limits → Yard → ℕ → ℕ → ℕ → Answer Outcome
+planned l y costs choices slots = checked (planChecks l y costs choices slots) (bestAnswer y (bestOf y))
+
+-- ---- lent memory
+
+-- both checks hold
+abbrev pub begins : Limits → Yard → ℕ → ℕ → ℕ → Bool
+begins l y costs choices slots = sound l y && suffices y costs choices slots
+
+-- the best plan in the first n bytes of the row
+abbrev pub placed : Option (List ℕ) → List ℕ → List ℕ
+placed (some best) row = best ++ drop (length best) row
+placed none row = row
+
+unfoldable pub rowAfter : Limits → Yard → ℕ → ℕ → List ℕ → List ℕ
+rowAfter l y costs choices row = cond (begins l y costs choices (length row)) (placed (bestOf y) row) row
+
+-- of an area all words but the first `openWords` stay; those may hold anything. None is open where a check fails.
+abbrev pub openWords : Bool → ℕ → ℕ
+openWords begun words = cond begun words 0
+
+abbrev pub Stays : ℕ → List ℕ → List ℕ → Type 0
+Stays words before after = drop words after ≡ drop words before

@@ -1,0 +1,123 @@
+// The planning call (document 01): the best plan of a day, or refusal 8, 10 or 9.
+//
+// Proved: for every record and all lent memory `plan` answers what `planned` of specs/Planning.antt says and leaves the row as
+// `rowAfter` says; of the two areas only the words that planning needs may change. specs/Demand.antt draws demand 3 from this.
+// Assumes nothing.
+ghost use mathlib.Core.Path.{_≡_};
+ghost use Prim.Native.Nat.{_≤_, _*_, _^_};
+ghost use mathlib.Core.Bool.{_&&_};
+ghost use lib.Dec.{T, leb};
+ghost use lib.ListN.{length};
+ghost use Rattle.day.specs.Sound.{dayLimits, yard, sound};
+ghost use Rattle.planning.specs.Planning.{answer, costWords, choiceWords, planned, begins, rowAfter, openWords, Stays};
+ghost use Rattle.feasibility.specs.Verdict.{SomeRow};
+ghost use Rattle.optimum.specs.Layers.{Solved};
+ghost use Rattle.staging.specs.Bounds.{noCost};
+ghost use Rattle.staging.specs.Tables.{servable, slotCost};
+ghost use Rattle.planning.specs.Laws.{Placed, Decided};
+use day::Day;
+use day::Refusal;
+use feasibility::Overbooked;
+use valuing::Value;
+
+pub enum Planned {
+    Plan(Value),
+    Refused(Refusal),
+}
+
+// The number of sets of n trains.
+fn count_sets(n: usize) -> usize
+    requires { ⌜ n ≤ 12 ⌝ }
+    ensures { λ r. ⌜ (r ≡ 2 ^ n) × (r ≤ 4096) ⌝ }
+{
+    1usize << n
+}
+
+// Whether the two areas and the row are long enough for n trains and T slots.
+fn are_enough(n: usize, slots: u8, size: usize, costs: usize, choices: usize, bytes: usize) -> bool
+    requires { ⌜ size ≤ 4096 ⌝ }
+    ensures { λ r. ⌜ r ≡ (leb size costs && leb (slots * size) choices && leb n bytes) ⌝ }
+{
+    let words = slots as usize * size;
+    (size <= costs) & (words <= choices) & (n <= bytes)
+}
+
+// Solves a sound day: the least cost of serving each set from slot 1 on, and the choices that lead to it. The tables are local, so that
+// the inner loop reads nothing else.
+fn solve_day(day: Day, cost: &mut [u64], choice: &mut [u16], size: usize)
+    requires { ⌜ T (sound dayLimits (yard day)) × ((size ≡ 2 ^ day .trains) × ((size ≤ length (now cost)) × (day .slots * size ≤ length (now choice)))) ⌝ }
+    ensures { λ _. ⌜ Solved (servable (yard day)) (slotCost (yard day)) noCost size (day .slots) 0 (now (cost .entry)) (now (choice .entry)) (now (cost .exit)) (now (choice .exit)) ⌝ }
+{
+    let boxes = day.boxes;
+    let first = day.first;
+    let last = day.last;
+    let n = day.trains;
+    let slots = day.slots as usize;
+    let mut need = [0u16; 4096];
+    let mut late = [0u32; 4096];
+    let mut price = [0u32; 4096];
+    let mut opens = [0u16; 8];
+    tables::fill_needing(&mut need, &boxes, 12, n);
+    tables::fill_late(&mut late, day.revisit, size);
+    tables::fill_price(&mut price, &boxes, 12, n, size, day.tracks, day.split);
+    tables::fill_open(&mut opens, &first, &last, n, slots);
+    solving::solve(cost, choice, &need, &late, &price, &opens, slots, size);
+}
+
+// Puts the best row of a sound day, which has an allowed one, into the first bytes of `row`.
+fn place_trains(day: Day, cost: &mut [u64], choice: &mut [u16], row: &mut [u8], size: usize)
+    requires { ⌜ T (sound dayLimits (yard day)) × (SomeRow (yard day) × ((size ≡ 2 ^ day .trains) × ((size ≤ length (now cost)) × ((day .slots * size ≤ length (now choice)) × (day .trains ≤ length (now row)))))) ⌝ }
+    ensures { λ _. ⌜ Placed (yard day) size (now (cost .entry)) (now (choice .entry)) (now (row .entry)) (now (cost .exit)) (now (choice .exit)) (now (row .exit)) ⌝ }
+{
+    solve_day(day, cost, choice, size);
+    solving::trace(choice, row, day.trains, day.slots as usize, size);
+}
+
+// The plan of a sound day, or the first overbooked interval.
+fn plan_sound(
+    day: Day,
+    cost: &mut [u64],
+    choice: &mut [u16],
+    row: &mut [u8],
+    size: usize,
+) -> Planned
+    requires { ⌜ T (sound dayLimits (yard day)) × ((size ≡ 2 ^ day .trains) × ((size ≤ length (now cost)) × ((day .slots * size ≤ length (now choice)) × (day .trains ≤ length (now row))))) ⌝ }
+    ensures { λ r. ⌜ Decided (yard day) size (now (cost .entry)) (now (choice .entry)) (now (row .entry)) (answer r) (now (cost .exit)) (now (choice .exit)) (now (row .exit)) ⌝ }
+{
+    let first = day.first;
+    let last = day.last;
+    let boxes = day.boxes;
+    let n = day.trains;
+    let found = feasibility::first_overbooked(&first, &last, n, day.tracks, day.slots);
+    if let Overbooked::Interval {
+        first: a,
+        last: b,
+        trains: k,
+    } = found {
+        return Planned::Refused(Refusal::NoAllowedRow {
+            first: a,
+            last: b,
+            trains: k,
+        });
+    }
+    place_trains(day, cost, choice, row, size);
+    Planned::Plan(valuing::value_slots(&boxes, 12, &row[..n], n, day.revisit, day.split))
+}
+
+// Plans a day. `cost` needs 2^n words, `choice` T × 2^n words, `row` n bytes: else 10.
+pub fn plan(day: Day, cost: &mut [u64], choice: &mut [u16], row: &mut [u8]) -> Planned
+    ensures { λ r. ⌜ answer r ≡ planned dayLimits (yard day) (length (now (cost .entry))) (length (now (choice .entry))) (length (now (row .entry))) ⌝ }
+    ensures { λ r. ⌜ now (row .exit) ≡ rowAfter dayLimits (yard day) (length (now (cost .entry))) (length (now (choice .entry))) (now (row .entry)) ⌝ }
+    ensures { λ r. ⌜ Stays (openWords (begins dayLimits (yard day) (length (now (cost .entry))) (length (now (choice .entry))) (length (now (row .entry)))) (costWords (yard day))) (now (cost .entry)) (now (cost .exit)) ⌝ }
+    ensures { λ r. ⌜ Stays (openWords (begins dayLimits (yard day) (length (now (cost .entry))) (length (now (choice .entry))) (length (now (row .entry)))) (choiceWords (yard day))) (now (choice .entry)) (now (choice .exit)) ⌝ }
+{
+    if !day::is_sound(day) {
+        return Planned::Refused(Refusal::Unsound);
+    }
+    let n = day.trains;
+    let size = count_sets(n);
+    if !are_enough(n, day.slots, size, cost.len(), choice.len(), row.len()) {
+        return Planned::Refused(Refusal::TooShort);
+    }
+    plan_sound(day, cost, choice, row, size)
+}
