@@ -22,8 +22,8 @@ use Rattle.day.specs.declared.Limits.{Limits}
 use Rattle.feasibility.specs.Verdict.{SomeRow, some-no-row}
 use Rattle.optimum.specs.Layers.{Solved}
 use Rattle.optimum.specs.Chosen.{rowIn, Leads}
-use Rattle.staging.specs.Tables.{servable, slotCost}
-use Rattle.staging.specs.Bounds.{Limited, noCost, slots-fit}
+use Rattle.staging.specs.Tables.{servable, slotCost, noCost}
+use Rattle.staging.specs.Bounds.{Limited, slots-fit}
 use Rattle.staging.specs.Solution.{solution-leads, solution-best, solution-some}
 use Rattle.planning.specs.Planning.{costWords, choiceWords, bestAnswer, suffices, planned, begins, placed, rowAfter, openWords, Stays}
 

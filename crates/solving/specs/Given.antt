@@ -1,5 +1,5 @@
 -- What the functions over tables are given: tables that reach as far as the sets and slots asked for, and entries so small that every sum
--- of costs fits 64 bits and stays below `none`. And the cell that one of them finds.
+-- of costs fits 64 bits and stays below `noCost`. And the cell that one of them finds.
 -- Assumes nothing.
 use mathlib.Core.List.{List}
 use Prim.Native.Nat.{ℕ, suc, _*_, _≤_, _<_}
@@ -8,11 +8,7 @@ use lib.ListN.{length}
 use Rattle.optimum.specs.Workspace.{at}
 use Rattle.optimum.specs.Least.{Cell}
 use Rattle.optimum.specs.Stages.{cell}
-use Rattle.staging.specs.Tables.{fromTables, costFromTables}
-
--- the value of what has no schedule: the largest of 64 bits
-abbrev pub none : ℕ
-none = 18446744073709551615
+use Rattle.staging.specs.Tables.{fromTables, costFromTables, noCost}
 
 -- the revisits of a set of 12 trains cost at most this, 12 * 65535
 abbrev pub mostLate : ℕ
@@ -35,11 +31,11 @@ pub record Given (size slots : ℕ) (need late price opens : List ℕ) : Type 0 
 -- values of the sets below `size`: none, or what at most 8 slots come to
 pub record Values (size : ℕ) (cost : List ℕ) : Type 0 where
   pub long : size ≤ length cost
-  pub low : (x : ℕ) → x < size → at cost x < none → at cost x ≤ 8 * most
+  pub low : (x : ℕ) → x < size → at cost x < noCost → at cost x ≤ 8 * most
 
 -- the cell of stage j + 1, where r remains and `cost` holds the values of the next stage
 abbrev pub cellFrom : List ℕ → List ℕ → List ℕ → List ℕ → List ℕ → ℕ → ℕ → Cell
-cellFrom need late price opens cost j r = cell (fromTables price opens) (costFromTables need late price) none (at cost) (suc j) r
+cellFrom need late price opens cost j r = cell (fromTables price opens) (costFromTables need late price) noCost (at cost) (suc j) r
 
 -- what is given for more sets and slots is given for fewer
 pub given-less : {size slots : ℕ} {need late price opens : List ℕ} (x j : ℕ) → Given size slots need late price opens → x ≤ size → j ≤ slots

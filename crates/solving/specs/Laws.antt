@@ -15,8 +15,8 @@ use Rattle.sets.specs.Subset.{Sub, subset, sub-le}
 use Rattle.optimum.specs.Workspace.{at}
 use Rattle.optimum.specs.Stages.{tab, tab-small}
 use Rattle.optimum.specs.Layers.{Stage, stage-reads}
-use Rattle.staging.specs.Tables.{barred, fromTables, costFromTables}
-use Rattle.solving.specs.Given.{none, mostLate, most, Given, Values}
+use Rattle.staging.specs.Tables.{barred, fromTables, costFromTables, noCost}
+use Rattle.solving.specs.Given.{mostLate, most, Given, Values}
 
 -- ---- the test
 
@@ -46,7 +46,7 @@ module _ {size slots : ℕ} {need late price opens : List ℕ} (g : Given size s
   cost-small t r s l h = omega (arith, late-small s (at need (r - s)) l, serve-priced price opens t r s h)
 
   -- what a turn of stage j + 1 reads is the next stage's table, of at most 7 stages
-  pub stage-values : {j x : ℕ} {a₀ c₀ a c : List ℕ} (y : ℕ) → Stage (fromTables price opens) (costFromTables need late price) none size slots j x a₀ c₀ a c
+  pub stage-values : {j x : ℕ} {a₀ c₀ a c : List ℕ} (y : ℕ) → Stage (fromTables price opens) (costFromTables need late price) noCost size slots j x a₀ c₀ a c
       → j < slots → size ≤ length a → y ≤ x → Values y a
   stage-values {j} {x} {a = a} y h l n k =
       record {
@@ -55,9 +55,9 @@ module _ {size slots : ℕ} {need late price opens : List ℕ} (g : Given size s
             let ok = fromTables price opens in
             let w = costFromTables need late price in
             let in-size : i < size = omega (arith, h .within) in
-            let e : at a i ≡ tab ok w none (slots - suc j) (suc (suc j)) i = stage-reads h i (omega arith) in
-            let b : tab ok w none (slots - suc j) (suc (suc j)) i ≤ (slots - suc j) * most =
-            tab-small ok w none (suc (suc slots)) i most (λ t r s d b hs m. cost-small t r s (omega (arith, sub-le s r hs)) m) (slots - suc j) (suc (suc j)) i
+            let e : at a i ≡ tab ok w noCost (slots - suc j) (suc (suc j)) i = stage-reads h i (omega arith) in
+            let b : tab ok w noCost (slots - suc j) (suc (suc j)) i ≤ (slots - suc j) * most =
+            tab-small ok w noCost (suc (suc slots)) i most (λ t r s d b hs m. cost-small t r s (omega (arith, sub-le s r hs)) m) (slots - suc j) (suc (suc j)) i
             (omega arith) (omega arith) (omega arith) in
             let eight : slots ≤ 8 = g .short in
             omega arith;

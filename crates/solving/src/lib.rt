@@ -8,20 +8,14 @@ ghost use Prim.Native.Nat.{_+_, _*_, _^_, _≤_};
 ghost use lib.ListN.{length, take, drop};
 ghost use Rattle.optimum.specs.Layers.{Ground, Solved};
 ghost use Rattle.optimum.specs.Chosen.{rowIn, Leads};
-ghost use Rattle.staging.specs.Tables.{fromTables, costFromTables};
-ghost use Rattle.solving.specs.Given.{none, Given, Values, cellFrom};
+ghost use Rattle.staging.specs.Tables.{fromTables, costFromTables, noCost};
+ghost use Rattle.solving.specs.Given.{Given, Values, cellFrom};
 
 // A cell of the table: the least value, and the set that is served for it.
 struct Pick {
     value: u64,
     set: u16,
 }
-
-// The value of what has no schedule.
-const NONE: u64 = 18446744073709551615;
-
-// The price of a set that has more trains than tracks.
-const BARRED: u32 = 4294967295;
 
 // The cheapest set to serve in slot j + 1 where the set r of trains remains: its revisits and split moves, and what the rest costs after
 // it, which `cost` holds. Only trains whose windows hold the slot are walked through, from the largest set down, so that of equal ones
@@ -39,15 +33,15 @@ fn cheapest(
     ensures { λ p. ⌜ (p .value ≡ cellFrom (now (need .entry)) (now (late .entry)) (now (price .entry)) (now (opens .entry)) (now (cost .entry)) j r .value) × (p .set ≡ cellFrom (now (need .entry)) (now (late .entry)) (now (price .entry)) (now (opens .entry)) (now (cost .entry)) j r .set) ⌝ }
 {
     let ready = r & (opens[j] as usize);
-    let mut least: u64 = NONE;
+    let mut least: u64 = staging::NONE;
     let mut chosen: u16 = 0;
     let mut s = ready;
     loop {
         let splits = price[s];
-        if splits < BARRED {
+        if splits < staging::BARRED {
             let rest = r - s;
             let after = cost[rest];
-            if after < NONE {
+            if after < staging::NONE {
                 let total = after + ((late[s & (need[rest] as usize)] as u64) + (splits as u64));
                 if total < least {
                     least = total;
@@ -68,10 +62,10 @@ fn cheapest(
 // The values where no slot is left: 0 if nothing remains, none otherwise.
 fn ground(cost: &mut [u64], size: usize)
     requires { ⌜ size ≤ length (now cost) ⌝ }
-    ensures { λ _. ⌜ Ground none size size (now (cost .entry)) (now (cost .exit)) ⌝ }
+    ensures { λ _. ⌜ Ground noCost size size (now (cost .entry)) (now (cost .exit)) ⌝ }
 {
     for i in 0..size {
-        cost[i] = if i == 0 { 0 } else { NONE };
+        cost[i] = if i == 0 { 0 } else { staging::NONE };
     }
 }
 
@@ -89,7 +83,7 @@ pub fn solve(
     size: usize,
 )
     requires { ⌜ Given size slots (now need) (now late) (now price) (now opens) × (size ≤ length (now cost)) × (slots * size ≤ length (now choice)) ⌝ }
-    ensures { λ _. ⌜ Solved (fromTables (now (price .entry)) (now (opens .entry))) (costFromTables (now (need .entry)) (now (late .entry)) (now (price .entry))) none size slots 0 (now (cost .entry)) (now (choice .entry)) (now (cost .exit)) (now (choice .exit)) ⌝ }
+    ensures { λ _. ⌜ Solved (fromTables (now (price .entry)) (now (opens .entry))) (costFromTables (now (need .entry)) (now (late .entry)) (now (price .entry))) noCost size slots 0 (now (cost .entry)) (now (choice .entry)) (now (cost .exit)) (now (choice .exit)) ⌝ }
 {
     ground(cost, size);
     let mut j = slots;

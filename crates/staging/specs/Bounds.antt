@@ -15,7 +15,7 @@ use Rattle.sets.specs.Mask.{has}
 use Rattle.sets.specs.Subset.{Sub, sub-le}
 use Rattle.model.specs.Model.{Yard, received}
 use Rattle.optimum.specs.Masks.{full}
-use Rattle.staging.specs.Tables.{needing, fromOutside, lateTrains, servable, slotCost, barred}
+use Rattle.staging.specs.Tables.{needing, fromOutside, lateTrains, servable, slotCost, barred, noCost}
 
 -- a day within limits: weights up to W, up to N trains, up to B boxes from one train to another
 pub record Limited (y : Yard) (W N B : ℕ) : Type 0 where
@@ -78,9 +78,6 @@ module _ {y : Yard} {W N B : ℕ} (h : Limited y W N B) where
   slot-cost-small t r s a b hs may = slot-cost-le t r s (omega (arith, sub-le s r hs, pow-pos (y .trains)))
 
 -- ---- document 01's limits: weights up to 65535, 12 trains, 255 boxes; and any number of slots that a byte holds
-
-abbrev pub noCost : ℕ
-noCost = 18446744073709551615
 
 pub split-fits : splitBound 65535 12 255 < barred
 split-fits = omega arith

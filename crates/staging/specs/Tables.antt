@@ -47,6 +47,10 @@ slotCost y t r s = y .revisit * lateTrains y r s + y .split * fromOutside (y .tr
 abbrev pub barred : ℕ
 barred = 4294967295
 
+-- the cost of what cannot be served
+abbrev pub noCost : ℕ
+noCost = 18446744073709551615
+
 abbrev pub fromTables : List ℕ → List ℕ → Test
 fromTables price opens t r s = ltb (getD price s 0) barred && subset s (getD opens (t - 1) 0)
 

@@ -17,9 +17,6 @@ ghost use Rattle.tables.specs.Given.{Given};
 ghost use Rattle.tables.specs.Entries.{receivers, doubled, lateCost, outsideBoxes, outsideTo, splitCost};
 ghost use Rattle.tables.specs.Filled.{Filled};
 
-// The price of a set that has more trains than tracks.
-const BARRED: u32 = 4294967295;
-
 // ---- the trains with a supplier in each set
 
 // The trains that receive from train k.
@@ -118,7 +115,7 @@ fn from_outside(boxes: &[u8], width: usize, n: usize, s: usize) -> u64
     total
 }
 
-// What the split moves of s cost, or `BARRED`.
+// What the split moves of s cost, or `staging::BARRED`.
 fn price_of(boxes: &[u8], width: usize, n: usize, s: usize, tracks: u32, split: u32) -> u32
     requires { ⌜ Given n width (now boxes) × (split ≤ 65535) ⌝ }
     ensures { λ r. ⌜ (r ≡ splitCost n (cell width (now (boxes .entry))) tracks split s) × (ones s ≤ tracks → split * fromOutside n (cell width (now (boxes .entry))) s ≤ 2406445200) ⌝ }
@@ -126,7 +123,7 @@ fn price_of(boxes: &[u8], width: usize, n: usize, s: usize, tracks: u32, split: 
     if usize::count_ones(s) <= tracks {
         return (day::wide32(split) * from_outside(boxes, width, n, s)) as u32;
     }
-    BARRED
+    staging::BARRED
 }
 
 pub fn fill_price(

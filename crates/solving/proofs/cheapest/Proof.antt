@@ -10,15 +10,15 @@ use lib.Dec.{T}
 use Rattle.sets.specs.Subset.{Sub, sub-le, sub-refl, sub-trans, sub-and, walk-sub, walk-lt}
 use Rattle.optimum.specs.Workspace.{at}
 use Rattle.optimum.specs.Tried.{Tried, tried-start, tried-take, tried-keep, tried-pass, tried-is, tried-next, tried-meet}
-use Rattle.staging.specs.Tables.{barred, fromTables, costFromTables}
-use Rattle.solving.specs.Given.{none, mostLate}
+use Rattle.staging.specs.Tables.{barred, fromTables, costFromTables, noCost}
+use Rattle.solving.specs.Given.{mostLate}
 use Rattle.solving.specs.Laws.{may-serve, serve-open, serve-priced, late-small}
 use Rattle.solving.proofs.cheapest.Statement.{statement}
 use Rattle.solving.proofs.cheapest.Tie as tie
 
 abbrev Inv-loop : tie.InvT-loop
 Inv-loop cost need late price opens j r ready least₀ chosen₀ s₀ least chosen s =
-    Sub s ready × Tried (fromTables price opens) (costFromTables need late price) none (at cost) (suc j) r ready (suc s) least chosen
+    Sub s ready × Tried (fromTables price opens) (costFromTables need late price) noCost (at cost) (suc j) r ready (suc s) least chosen
 
 abbrev μ-loop : tie.MeasureT-loop
 μ-loop cost need late price opens j r ready least₀ chosen₀ s₀ least chosen s = s
@@ -52,7 +52,7 @@ module _ (a : tie.At-loop Inv-loop μ-loop) where
 tried : (c : tie.Joined1 Inv-loop μ-loop)
     → let a = c .before .before in
     let z = from a .args in
-    Tried (fromTables (z .price .now) (z .opens .now)) (costFromTables (z .need .now) (z .late .now) (z .price .now)) none (at (z .cost .now)) (suc (z .j)) (z .r)
+    Tried (fromTables (z .price .now) (z .opens .now)) (costFromTables (z .need .now) (z .late .now) (z .price .now)) noCost (at (z .cost .now)) (suc (z .j)) (z .r)
     (ready a) (a .loop .s) (c .if1 .least) (c .if1 .chosen)
 tried c =
     let a = c .before .before in

@@ -6,13 +6,13 @@ use mathlib.Core.Logic.{⊎-elim}
 use native.Mathlib.Omega.{arith}
 use borrow.Author.Tests.{eq-eqb, ne-eqb}
 use lib.ListN.{length}
+use Rattle.staging.specs.Tables.{noCost}
 use Rattle.optimum.specs.Layers.{Ground, ground-start, ground-next, ground-end}
-use Rattle.solving.specs.Given.{none}
 use Rattle.solving.proofs.ground.Statement.{statement}
 use Rattle.solving.proofs.ground.Tie as tie
 
 abbrev Inv-loop : tie.InvT-loop
-Inv-loop cost₀ size i₀ cost i = (i ≤ size) × Ground none size i cost₀ cost
+Inv-loop cost₀ size i₀ cost i = (i ≤ size) × Ground noCost size i cost₀ cost
 
 abbrev μ-loop : tie.MeasureT-loop
 μ-loop cost₀ size i₀ cost i = size - i
@@ -21,7 +21,7 @@ long : (c : tie.In-loop Inv-loop μ-loop) → c .before .before .args .size ≤ 
 long c = omega (arith, c .before .loop .inv .1 .kept .long)
 
 loop-holds : tie.Need-loop-holds Inv-loop μ-loop
-loop-holds c = (omega arith, ground-start none (c .args .size) (c .args .cost .now))
+loop-holds c = (omega arith, ground-start noCost (c .args .size) (c .args .cost .now))
 
 mul-cost : tie.Need-mul-cost Inv-loop μ-loop
 mul-cost c = omega (arith, long (c .before))

@@ -8,22 +8,22 @@ use borrow.Author.Needs.{needs}
 use lib.Arith.{digits-lt}
 use lib.ListN.{length}
 use Rattle.optimum.specs.Layers.{Solved, Stage, solved-start, solved-since, stage-start, stage-next, stage-end}
-use Rattle.staging.specs.Tables.{fromTables, costFromTables}
-use Rattle.solving.specs.Given.{none, given-less}
+use Rattle.staging.specs.Tables.{fromTables, costFromTables, noCost}
+use Rattle.solving.specs.Given.{given-less}
 use Rattle.solving.specs.Laws.{stage-values}
 use Rattle.solving.proofs.solve.Statement.{statement}
 use Rattle.solving.proofs.solve.Tie as tie
 
 abbrev Inv-loop2 : tie.InvT-loop2
 Inv-loop2 cost₀ choice₀ need late price opens slots size j r₀ cost choice r =
-    Stage (fromTables price opens) (costFromTables need late price) none size slots j r cost₀ choice₀ cost choice
+    Stage (fromTables price opens) (costFromTables need late price) noCost size slots j r cost₀ choice₀ cost choice
 
 abbrev μ-loop2 : tie.MeasureT-loop2
 μ-loop2 cost₀ choice₀ need late price opens slots size j r₀ cost choice r = r
 
 abbrev Inv-loop : tie.InvT-loop
 Inv-loop cost₀ choice₀ need late price opens slots size j₀ cost choice j =
-    Solved (fromTables price opens) (costFromTables need late price) none size slots j cost₀ choice₀ cost choice
+    Solved (fromTables price opens) (costFromTables need late price) noCost size slots j cost₀ choice₀ cost choice
 
 abbrev μ-loop : tie.MeasureT-loop
 μ-loop cost₀ choice₀ need late price opens slots size j₀ cost choice j = j
