@@ -12,7 +12,7 @@ use lib.ListN.{length}
 use Rattle.fold.specs.Listed.{length-listed, listed-at}
 use Rattle.sets.specs.Subset.{Sub}
 use Rattle.optimum.specs.Workspace.{at}
-use Rattle.optimum.specs.Masks.{full}
+use Rattle.sets.specs.Rest.{full}
 use Rattle.optimum.specs.Schedules.{Test, Contribution, value, ahead-ext, ahead-same}
 use Rattle.optimum.specs.Stages.{tab, follow, Cheapest, tab-cheapest, tab-lower, tab-some}
 use Rattle.optimum.specs.Rows.{stageSet, worth, Row, BestRow, setsOf, rowOf, row-schedule, row-value, same-sets, row-set, sets-row, schedule-row}

@@ -12,7 +12,7 @@ use lib.Pow.{pow-pos}
 use Rattle.fold.specs.Listed.{listed}
 use Rattle.sets.specs.Mask.{mask-lt}
 use Rattle.optimum.specs.Workspace.{at}
-use Rattle.optimum.specs.Masks.{full}
+use Rattle.sets.specs.Rest.{full}
 use Rattle.optimum.specs.Schedules.{Test, Contribution}
 use Rattle.optimum.specs.Stages.{tab, choice, follow}
 use Rattle.optimum.specs.Layers.{Solved, solved-table, solved-choice}

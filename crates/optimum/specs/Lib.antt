@@ -1,5 +1,4 @@
 pub mod Workspace
-pub mod Masks
 pub mod Least
 pub mod Schedules
 pub mod Offers

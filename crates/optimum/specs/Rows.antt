@@ -21,7 +21,7 @@ use Rattle.fold.specs.Listed.{listed, length-listed, listed-at, listed-ext, lis
 use Rattle.sets.specs.Mask.{has, mask, mask-ext, mask-same, mask-has, mask-empty, mask-full}
 use Rattle.sets.specs.Subset.{Sub, sub-le, sub-mask}
 use Rattle.optimum.specs.Workspace.{at}
-use Rattle.optimum.specs.Masks.{full, mask-rest, has-none, has-full, rest-bit, lowest-only}
+use Rattle.sets.specs.Rest.{full, mask-rest, has-none, has-full, rest-bit, lowest-only}
 use Rattle.optimum.specs.Schedules.{Test, Contribution, Schedule, value, Ahead, listed-schedule, schedule-listed, value-listed}
 
 -- ---- definitions

@@ -14,7 +14,7 @@ use lib.Seq.{getD-set-other, getD-take, length-take-le, ext-getD}
 use borrow.Author.Tests.{eq-eqb, eqb-true}
 use Rattle.sets.specs.Mask.{has, has-mask, mask-lt}
 use Rattle.sets.specs.Subset.{sub-le}
-use Rattle.optimum.specs.Masks.{full, bit-test}
+use Rattle.sets.specs.Rest.{full, bit-test}
 use Rattle.optimum.specs.Workspace.{at, Kept, kept-here, kept-then, kept-set, set-at}
 use Rattle.optimum.specs.Rows.{stageSet, remaining, stage-sub, remaining-all, remaining-next}
 use Rattle.optimum.specs.Chosen.{Leads}

@@ -7,7 +7,7 @@ use native.Mathlib.Omega.{arith}
 use lib.Bits.{bitAnd}
 use lib.Dec.{T}
 use Rattle.sets.specs.Subset.{Sub, walk}
-use Rattle.optimum.specs.Masks.{meet-left, sub-meet}
+use Rattle.sets.specs.Rest.{meet-left, sub-meet}
 use Rattle.optimum.specs.Least.{Least, least-start, least-take, least-keep, least-next, least-widen}
 use Rattle.optimum.specs.Offers.{offer-yes, offer-no, offer-lt}
 use Rattle.optimum.specs.Schedules.{Test, Contribution}

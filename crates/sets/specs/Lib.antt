@@ -1,2 +1,3 @@
 pub mod Mask
 pub mod Subset
+pub mod Rest

@@ -14,7 +14,7 @@ use Rattle.sets.specs.Mask.{has, has-mask, mask-lt, ones-mask}
 use Rattle.sets.specs.Subset.{Sub, subset, sub-mask}
 use Rattle.model.specs.Model.{Yard, firstSlot, lastSlot, slotOf, load, allowed}
 use Rattle.model.specs.Rows.{both-le, le-both, allowed-is, is-allowed}
-use Rattle.optimum.specs.Masks.{sub-has}
+use Rattle.sets.specs.Rest.{sub-has}
 use Rattle.optimum.specs.Rows.{stageSet, Row}
 use Rattle.staging.specs.Tables.{openIn, servable}
 

@@ -14,7 +14,7 @@ use Rattle.fold.specs.Sums.{sum-bound}
 use Rattle.sets.specs.Mask.{has}
 use Rattle.sets.specs.Subset.{Sub, sub-le}
 use Rattle.model.specs.Model.{Yard, received}
-use Rattle.optimum.specs.Masks.{full}
+use Rattle.sets.specs.Rest.{full}
 use Rattle.staging.specs.Tables.{needing, fromOutside, lateTrains, servable, slotCost, barred, noCost}
 
 -- a day within limits: weights up to W, up to N trains, up to B boxes from one train to another

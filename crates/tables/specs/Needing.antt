@@ -19,7 +19,7 @@ use Rattle.fold.specs.Counting.{same-or, le-or-lt}
 use Rattle.sets.specs.Mask.{has, mask, has-mask, mask-ext, mask-has, mask-or, mask-empty}
 use Rattle.model.specs.Model.{supplies}
 use Rattle.optimum.specs.Workspace.{at, kept-here, kept-then}
-use Rattle.optimum.specs.Masks.{has-none}
+use Rattle.sets.specs.Rest.{has-none}
 use Rattle.staging.specs.Tables.{needing}
 use Rattle.tables.specs.Entries.{receivers, doubled}
 use Rattle.tables.specs.Filled.{Filled, kept-more, filled-none, filled-next, filled-end}

@@ -1,7 +1,7 @@
 -- `tables::is_in` meets its contract. The code's test of a binary digit is the digit.
 -- Assumes nothing.
 use borrow.Author.Needs.{needs}
-use Rattle.optimum.specs.Masks.{bit-test}
+use Rattle.sets.specs.Rest.{bit-test}
 use Rattle.tables.proofs.is_in.Statement.{statement}
 use Rattle.tables.proofs.is_in.Tie as tie
 

@@ -1,6 +1,5 @@
--- Laws of sets that rows and schedules need: the digits of what is left when a subset goes, of the empty set and of the full one; a set
--- within two is within what they share; and the one index that passes is the lowest. They speak of the definitions of the crates below
--- and bring no new one but `full`.
+-- Sets less a part: the digits of what is left when a subset goes, of the empty set and of the full one; a set within two is within what
+-- they share; the one index that passes is the lowest; and the code's test of a position.
 -- Assumes nothing.
 use mathlib.Core.Path.{_≡_, refl, sym, ap, ap₂, _∙_, subst, subst₂}
 use mathlib.Core.Bool.{Bool, true, false, not, cond, _&&_}
