@@ -28,16 +28,20 @@ doubled b size more x = cond (ltb x size) (at b x) (bitOr (at b (x - size)) more
 abbrev pub lateCost : ℕ → ℕ → ℕ
 lateCost revisit m = revisit * ones m
 
--- the boxes of train i from train j, where j is outside s; from all trains outside s; and only where i is in s
+-- the boxes of train i from train j, where j is outside s; from all trains outside s
 unfoldable pub outsideBoxes : (ℕ → ℕ → ℕ) → ℕ → ℕ → ℕ → ℕ
 outsideBoxes a s i j = cond (has s j) 0 (a i j)
 
 unfoldable pub outsideTo : ℕ → (ℕ → ℕ → ℕ) → ℕ → ℕ → ℕ
 outsideTo n a s i = sum n (outsideBoxes a s i)
 
-unfoldable pub outsideIn : ℕ → (ℕ → ℕ → ℕ) → ℕ → ℕ → ℕ
-outsideIn n a s i = cond (has s i) (outsideTo n a s i) 0
+-- the boxes that the trains of m receive from train k
+unfoldable pub insideFrom : ℕ → (ℕ → ℕ → ℕ) → ℕ → ℕ → ℕ
+insideFrom n a m k = sum n λ i. cond (has m i) (a i k) 0
 
 -- what the split moves of s cost; barred where it has more trains than tracks
+abbrev pub priceOf : ℕ → ℕ → ℕ → ℕ → ℕ
+priceOf tracks split s moves = cond (leb (ones s) tracks) (split * moves) barred
+
 abbrev pub splitCost : ℕ → (ℕ → ℕ → ℕ) → ℕ → ℕ → ℕ → ℕ
-splitCost n a tracks split s = cond (leb (ones s) tracks) (split * fromOutside n a s) barred
+splitCost n a tracks split s = priceOf tracks split s (fromOutside n a s)

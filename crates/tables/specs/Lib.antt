@@ -3,3 +3,4 @@ pub mod Entries
 pub mod Filled
 pub mod Needing
 pub mod Costs
+pub mod Splits

@@ -36,7 +36,7 @@ mask-unit n k l =
     here i (inl e) = ap₂ (λ c x. cond c (2 ^ x) 0) (eq-eqb k i e ∙ sym (eq-eqb (suc k) (suc i) (ap suc e))) (sym e)
     here i (inr d) = simp (ne-eqb k i d, ne-eqb (suc k) (suc i) (λ q. d (omega arith)))
 
-has-join : (n k m j : ℕ) → k < n → m < 2 ^ k → j < n → has (2 ^ k + m) j ≡ (has m j || eqb k j)
+pub has-join : (n k m j : ℕ) → k < n → m < 2 ^ k → j < n → has (2 ^ k + m) j ≡ (has m j || eqb k j)
 has-join n k m j l h b =
     let small : m < 2 ^ n = omega (arith, pow-mono {i = k} {j = n} (omega arith)) in
     let e : 2 ^ k + m ≡ mask n (λ j. has m j || eqb k j) =

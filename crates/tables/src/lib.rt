@@ -14,8 +14,9 @@ ghost use Rattle.model.specs.Cells.{InTable};
 ghost use Rattle.optimum.specs.Workspace.{at};
 ghost use Rattle.staging.specs.Tables.{needing, fromOutside, openIn};
 ghost use Rattle.tables.specs.Given.{Given};
-ghost use Rattle.tables.specs.Entries.{receivers, doubled, lateCost, outsideBoxes, outsideTo, splitCost};
+ghost use Rattle.tables.specs.Entries.{receivers, doubled, lateCost, outsideBoxes, outsideTo, insideFrom, priceOf, splitCost};
 ghost use Rattle.tables.specs.Filled.{Filled};
+ghost use Rattle.tables.specs.Splits.{Counted};
 
 // ---- the trains with a supplier in each set
 
@@ -101,29 +102,64 @@ fn outside_to(boxes: &[u8], width: usize, n: usize, s: usize, i: usize) -> u64
     total
 }
 
-// The boxes that the trains of s receive from outside s: the split moves of s.
-fn from_outside(boxes: &[u8], width: usize, n: usize, s: usize) -> u64
-    requires { ⌜ Given n width (now boxes) ⌝ }
-    ensures { λ r. ⌜ (r ≡ fromOutside n (cell width (now (boxes .entry))) s) × (r ≤ 36720) ⌝ }
+// The boxes that the trains of m receive from train k.
+fn inside_from(boxes: &[u8], width: usize, n: usize, m: usize, k: usize) -> u64
+    requires { ⌜ Given n width (now boxes) × (k < n) ⌝ }
+    ensures { λ r. ⌜ r ≡ insideFrom n (cell width (now (boxes .entry))) m k ⌝ }
 {
     let mut total: u64 = 0;
     for i in 0..n {
-        if is_in(s, i) {
-            total += outside_to(boxes, width, n, s, i);
+        if is_in(m, i) {
+            total += day::wide8(day::cell_at(boxes, width, i, k));
         }
     }
     total
 }
 
+// To the split moves of the sets below `size`, those of the trains before k, adds the split moves of the same sets with train k: k
+// brings its boxes from outside, and what the others receive from k is split no longer.
+fn add_train(price: &mut [u32], boxes: &[u8], width: usize, n: usize, k: usize, size: usize)
+    requires { ⌜ Given n width (now boxes) × (k < n) × (size ≡ 2 ^ k) × (size + size ≤ length (now price)) × Counted n (cell width (now boxes)) k size (now price) (now price) ⌝ }
+    ensures { λ _. ⌜ Counted n (cell width (now (boxes .entry))) (k + 1) (size + size) (now (price .entry)) (now (price .exit)) ⌝ }
+{
+    for m in 0..size {
+        let most = day::wide32(price[m]) + outside_to(boxes, width, n, size + m, k);
+        price[size + m] = (most - inside_from(boxes, width, n, m, k)) as u32;
+    }
+}
+
+// The split moves of each set of the n trains: the boxes that its trains receive from outside it.
+fn fill_counts(price: &mut [u32], boxes: &[u8], width: usize, n: usize)
+    requires { ⌜ Given n width (now boxes) × (2 ^ n ≤ length (now price)) ⌝ }
+    ensures { λ _. ⌜ Counted n (cell width (now (boxes .entry))) n (2 ^ n) (now (price .entry)) (now (price .exit)) ⌝ }
+{
+    price[0] = 0;
+    let mut size = 1;
+    for k in 0..n {
+        add_train(price, boxes, width, n, k, size);
+        size += size;
+    }
+}
+
 // What the split moves of s cost, or `staging::BARRED`.
-fn price_of(boxes: &[u8], width: usize, n: usize, s: usize, tracks: u32, split: u32) -> u32
-    requires { ⌜ Given n width (now boxes) × (split ≤ 65535) ⌝ }
-    ensures { λ r. ⌜ (r ≡ splitCost n (cell width (now (boxes .entry))) tracks split s) × (ones s ≤ tracks → split * fromOutside n (cell width (now (boxes .entry))) s ≤ 2406445200) ⌝ }
+fn price_of(moves: u32, s: usize, tracks: u32, split: u32) -> u32
+    requires { ⌜ (moves ≤ 36720) × (split ≤ 65535) ⌝ }
+    ensures { λ r. ⌜ r ≡ priceOf tracks split s moves ⌝ }
 {
     if usize::count_ones(s) <= tracks {
-        return (day::wide32(split) * from_outside(boxes, width, n, s)) as u32;
+        return split * moves;
     }
     staging::BARRED
+}
+
+// Puts the price of each set for its split moves.
+fn set_prices(price: &mut [u32], size: usize, tracks: u32, split: u32)
+    requires { ⌜ (split ≤ 65535) × (size ≤ 4096) × (size ≤ length (now price)) × ((s : ℕ) → s < size → at (now price) s ≤ 36720) ⌝ }
+    ensures { λ _. ⌜ Filled (λ s. priceOf tracks split s (at (now (price .entry)) s)) size (now (price .entry)) (now (price .exit)) ⌝ }
+{
+    for s in 0..size {
+        price[s] = price_of(price[s], s, tracks, split);
+    }
 }
 
 pub fn fill_price(
@@ -135,12 +171,11 @@ pub fn fill_price(
     tracks: u32,
     split: u32,
 )
-    requires { ⌜ Given n width (now boxes) × (split ≤ 65535) × (size ≤ 4096) × (size ≤ length (now price)) ⌝ }
+    requires { ⌜ Given n width (now boxes) × (split ≤ 65535) × (size ≡ 2 ^ n) × (size ≤ length (now price)) ⌝ }
     ensures { λ _. ⌜ Filled (splitCost n (cell width (now (boxes .entry))) tracks split) size (now (price .entry)) (now (price .exit)) × ((s : ℕ) → s < size → ones s ≤ tracks → split * fromOutside n (cell width (now (boxes .entry))) s ≤ 2406445200) ⌝ }
 {
-    for s in 0..size {
-        price[s] = price_of(boxes, width, n, s, tracks, split);
-    }
+    fill_counts(price, boxes, width, n);
+    set_prices(price, size, tracks, split);
 }
 
 // ---- the trains that may be served in each slot

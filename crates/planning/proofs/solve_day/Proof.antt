@@ -54,7 +54,7 @@ slice-aggregate-fill-price-2 : tie.Need-slice-aggregate-fill-price-2
 slice-aggregate-fill-price-2 c = search needs
 
 fill-price-requires : tie.Need-fill-price-requires
-fill-price-requires c κs = (given (c .before .before .before .before .before .before .before .before .before .before .before .before .before .before .before), least (c .before .before .before .before .before .before .before .before .before .before .before .before .before .before .before) .weights .1, small (c .before .before .before .before .before .before .before .before .before .before .before .before .before .before .before), small (c .before .before .before .before .before .before .before .before .before .before .before .before .before .before .before))
+fill-price-requires c κs = (given (c .before .before .before .before .before .before .before .before .before .before .before .before .before .before .before), least (c .before .before .before .before .before .before .before .before .before .before .before .before .before .before .before) .weights .1, c .before .before .before .before .before .before .before .before .before .before .before .before .before .before .before .pre .1 .0, small (c .before .before .before .before .before .before .before .before .before .before .before .before .before .before .before))
 
 slice-aggregate-fill-open : tie.Need-slice-aggregate-fill-open
 slice-aggregate-fill-open c = search needs

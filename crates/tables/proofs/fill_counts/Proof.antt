@@ -1,0 +1,87 @@
+-- `tables::fill_counts` meets its contract. The loop's invariant: the table is filled for the `size` sets of the trains passed.
+-- Assumes nothing.
+use Prim.Native.Nat.{_≤_, _+_, _-_, _^_}
+use mathlib.Core.Path.{_≡_, refl, ap, _∙_}
+use borrow.Author.Needs.{needs}
+use native.Mathlib.Omega.{arith}
+use native.Mathlib.Numerals.{add-one}
+use native.Mathlib.Nat.{pow-suc, le-antisymm}
+use lib.ListN.{length, set}
+use lib.Pow.{pow-pos}
+use Rattle.model.specs.Model.{cell}
+use Rattle.tables.specs.Needing.{sets-fit}
+use Rattle.tables.specs.Splits.{Counted, counted-first, counted-here, counted-since, counted-end}
+use Rattle.tables.proofs.fill_counts.Statement.{statement}
+use Rattle.tables.proofs.fill_counts.Tie as tie
+
+abbrev Inv-loop : tie.InvT-loop
+Inv-loop price₀ boxes width n size₀ k₀ price size k = (k ≤ n) × (size ≡ 2 ^ k) × Counted n (cell width boxes) k size price₀ price
+
+abbrev μ-loop : tie.MeasureT-loop
+μ-loop price₀ boxes width n size₀ k₀ price size k = n - k
+
+-- the empty set alone
+first : (s : tie.Start Inv-loop μ-loop)
+    → Counted (s .args .n) (cell (s .args .width) (s .args .boxes .now)) 0 1 (s .args .price .now) (set (s .args .price .now) 0 0)
+first s = let some = pow-pos (s .args .n) in counted-first _ _ _ (omega arith)
+
+-- there is room for as many sets more
+fits : (c : tie.In-loop Inv-loop μ-loop) → let l = c .before .loop in (l .size ≤ 4096) × (l .size + l .size ≤ length (l .price))
+fits c =
+    let l = c .before .loop in
+    let s = c .before .before .before .before in
+    let room = sets-fit (l .k) (s .args .n) (l .size) (l .inv .1) (c .loop-test .taken) (s .pre .0 .few) in
+    let long = l .inv .2 .filled .kept .long ∙ first s .filled .kept .long in
+    omega arith
+
+slice-write-price : tie.Need-slice-write-price Inv-loop μ-loop
+slice-write-price c = let some = pow-pos (c .before .before .args .n) in omega arith
+
+loop-holds : tie.Need-loop-holds Inv-loop μ-loop
+loop-holds c = (search needs, refl, counted-here (first (c .before .before)))
+
+add-train-requires : tie.Need-add-train-requires Inv-loop μ-loop
+add-train-requires c κs =
+    let l = c .before .before .loop in
+    (c .before .before .before .before .before .pre .0, c .before .loop-test .taken, l .inv .1, fits (c .before) .1, counted-here (l .inv .2))
+
+add-size : tie.Need-add-size Inv-loop μ-loop
+add-size c = let room = fits (c .before .before .before .before) in omega arith
+
+add-k : tie.Need-add-k Inv-loop μ-loop
+add-k c = search needs
+
+loop-less : tie.Need-loop-less Inv-loop μ-loop
+loop-less c = search needs
+
+loop-again : tie.Need-loop-again Inv-loop μ-loop
+loop-again c =
+    let l = c .before .before .before .before .before .loop in
+    let twice = ap (λ x. 2 ^ x) (add-one (l .k)) ∙ pow-suc 2 (l .k) in
+    (search needs, omega (arith, l .inv .1), counted-since (l .inv .2) (omega arith) (c .before .before .add-train .ensures))
+
+same-length : tie.Need-same-length Inv-loop μ-loop
+same-length c = c .before .loop .inv .2 .filled .kept .long ∙ first (c .before .before .before .before) .filled .kept .long
+
+returns : tie.Need-returns Inv-loop μ-loop
+returns c =
+    let s = c .before .before .before .before in
+    let l = c .before .loop in
+    let end = le-antisymm (l .inv .0) (c .loop-test .left) in
+    counted-since (first s) (pow-pos (s .args .n)) (counted-end _ _ (l .inv .2) end (l .inv .1 ∙ ap (λ k. 2 ^ k) end))
+
+pub fill-counts-spec : {M : Type 1} → statement M
+fill-counts-spec =
+    tie.close
+    (tie.spec
+    Inv-loop
+    μ-loop
+    slice-write-price
+    loop-holds
+    add-train-requires
+    add-size
+    add-k
+    loop-less
+    loop-again
+    same-length
+    returns)
