@@ -89,20 +89,30 @@ static void fill_late(uint32_t *late, uint32_t revisit, size_t size)
         late[m] = revisit * (uint32_t)__builtin_popcountll(m);
 }
 
-static uint64_t from_outside(const uint8_t *boxes, size_t n, size_t s)
+static uint64_t outside_to(const uint8_t *boxes, size_t n, size_t s, size_t i)
+{
+    uint64_t total = 0;
+    for (size_t j = 0; j < n; j++)
+        total += (s >> j) & 1 ? 0 : boxes[i * WIDTH + j];
+    return total;
+}
+
+static uint64_t inside_from(const uint8_t *boxes, size_t n, size_t m, size_t k)
 {
     uint64_t total = 0;
     for (size_t i = 0; i < n; i++)
-        if ((s >> i) & 1)
-            for (size_t j = 0; j < n; j++)
-                total += (s >> j) & 1 ? 0 : boxes[i * WIDTH + j];
+        total += (m >> i) & 1 ? boxes[i * WIDTH + k] : 0;
     return total;
 }
 
 static void fill_price(uint32_t *price, const uint8_t *boxes, size_t n, size_t size, uint32_t tracks, uint32_t split)
 {
+    price[0] = 0;
+    for (size_t k = 0, below = 1; k < n; k++, below += below)
+        for (size_t m = 0; m < below; m++)
+            price[below + m] = (uint32_t)(price[m] + outside_to(boxes, n, below + m, k) - inside_from(boxes, n, m, k));
     for (size_t s = 0; s < size; s++)
-        price[s] = (uint32_t)__builtin_popcountll(s) <= tracks ? (uint32_t)(split * from_outside(boxes, n, s)) : BARRED;
+        price[s] = (uint32_t)__builtin_popcountll(s) <= tracks ? split * price[s] : BARRED;
 }
 
 static void fill_open(uint16_t *opens, const struct day *d)
