@@ -1,7 +1,7 @@
 -- What the test of a sound day says, as statements that callers use.
 -- Assumes nothing.
 use mathlib.Core.Path.{_≡_, refl, ap, subst}
-use mathlib.Core.Bool.{Bool, true, cond, _&&_}
+use mathlib.Core.Bool.{Bool, true, false, not, cond, _&&_}
 use mathlib.Core.List.{List, [], _∷_}
 use Prim.Native.Nat.{ℕ, zero, suc, _-_, _*_, _≤_, _<_}
 use native.Mathlib.Nat.{le-trans}
@@ -11,8 +11,8 @@ use lib.ListN.{length, getD}
 use borrow.Author.Tests.{lt-ltb, eq-eqb}
 use Rattle.fold.specs.Test.{of-true, both, both-of}
 use Rattle.fold.specs.Fold.{each, each-at}
-use Rattle.model.specs.Model.{Yard, firstSlot, lastSlot}
-use Rattle.day.specs.Sound.{Range, range, between, within, headRanges, trainRanges, headRow, trainRow, numberBefore, trainSound, unused, positionSound, receiverSound, shaped, sound}
+use Rattle.model.specs.Model.{Yard, received, firstSlot, lastSlot}
+use Rattle.day.specs.Sound.{Range, range, between, within, headRanges, trainRanges, headRow, trainRow, numberBefore, trainSound, unused, positionSound, pairSound, receiverSound, shaped, sound}
 use Rattle.day.specs.declared.Limits.{Limits}
 
 -- ---- ranges
@@ -47,19 +47,21 @@ number-first numbers (suc i) h = absurd (omega arith)
 
 -- ---- a sound day
 
-pub record Sound (l : Limits) (y : Yard) : Type 0 where
-  pub trains : (1 ≤ y .trains) × (y .trains ≤ l .trains)
-  pub tracks : (1 ≤ y .tracks) × (y .tracks ≤ l .tracks)
-  pub slots : (1 ≤ y .slots) × (y .slots ≤ l .slots)
-  pub weights : (y .revisit ≤ l .weight) × (y .split ≤ l .weight)
-  pub windows : (i : ℕ) → i < y .trains → (1 ≤ firstSlot y i) × (firstSlot y i ≤ lastSlot y i) × (lastSlot y i ≤ y .slots)
-
 pub record Shaped (l : Limits) (y : Yard) : Type 0 where
   pub width : y .width ≡ l .trains
   pub numbers : length (y .numbers) ≡ l .trains
   pub first : length (y .first) ≡ l .trains
   pub last : length (y .last) ≡ l .trains
   pub boxes : length (y .boxes) ≡ l .trains * l .trains
+
+pub record Sound (l : Limits) (y : Yard) : Type 0 where
+  pub shape : Shaped l y
+  pub trains : (1 ≤ y .trains) × (y .trains ≤ l .trains)
+  pub tracks : (1 ≤ y .tracks) × (y .tracks ≤ l .tracks)
+  pub slots : (1 ≤ y .slots) × (y .slots ≤ l .slots)
+  pub weights : (y .revisit ≤ l .weight) × (y .split ≤ l .weight)
+  pub windows : (i : ℕ) → i < y .trains → (1 ≤ firstSlot y i) × (firstSlot y i ≤ lastSlot y i) × (lastSlot y i ≤ y .slots)
+  pub boxes : (i j : ℕ) → i < y .trains → j < y .trains → received y i j ≤ l .boxes
 
 module _ (l : Limits) (y : Yard) where
   positions : Bool
@@ -126,18 +128,30 @@ module _ (l : Limits) (y : Yard) where
       let (inside, up) = both-of fields rises a in
       (inside, ltb→lt _ _ up, leb→le _ _ window)
 
+  -- the boxes of a pair, of the same train too
+  pair-limit : (i j : ℕ) → T (pairSound l (y .trains) (y .width) (y .boxes) i j) → received y i j ≤ l .boxes
+  unfolding pairSound
+  pair-limit i j t = go (ltb i (y .trains) && ltb j (y .trains) && not (eqb i j)) t
+    where
+      go : (b : Bool) → T (cond b (leb (received y i j) (l .boxes)) (eqb (received y i j) 0)) → received y i j ≤ l .boxes
+      go true h = leb→le (received y i j) (l .boxes) h
+      go false h = omega (arith, eqb→eq (received y i j) 0 h)
+
   pub sound-is : T (sound l y) → Sound l y
-  unfolding headRanges trainRanges
+  unfolding headRanges trainRanges receiverSound
   sound-is t =
       let (shape, head, p, boxes) = sound-tests t in
       let (n, (g, (s, (w1, (w2, u))))) = within-is (headRanges l) (headRow y) head in
+      let below : (i : ℕ) → i < y .trains → i < l .trains = λ i h. le-trans h (n .1) in
       record {
+        shape = shaped-is shape;
         trains = n;
         tracks = g;
         slots = s;
         weights = (w1 .1, w2 .1);
         windows = λ i h.
-            let (fields, up, window) = train-tests i h (each-at (l .trains) _ p i (le-trans h (n .1))) in
+            let (fields, up, window) = train-tests i h (each-at (l .trains) _ p i (below i h)) in
             let (number, (first, (last, u))) = within-is (trainRanges l (y .slots)) (trainRow (y .numbers) (y .first) (y .last) i) fields in
             (first .0, window, last .1);
+        boxes = λ i j a b. pair-limit i j (each-at (l .trains) _ (each-at (l .trains) _ boxes i (below i a)) j (below j b));
       }

@@ -2,12 +2,16 @@
 -- by the tags of the enum: 0 a names line, 1 a row, 2 the end, 3 a refusal.
 -- Assumes nothing.
 use mathlib.Core.Path.{_≡_, refl}
+use mathlib.Core.Bool.{not, _&&_}
 use mathlib.Core.List.{List, []}
 use mathlib.Core.Logic.{_⊎_, inl, inr, ⊎-elim}
 use Prim.Native.Nat.{ℕ}
 use native.Mathlib.Omega.{arith}
 use denote.Enum.Declared.{tagOf}
+use lib.Dec.{T, eqb}
 use lib.ListN.{drop}
+use borrow.Author.Tests.{eq-eqb}
+use Rattle.fold.specs.Test.{of-true, both-of, not-of}
 use Rattle.day.specs.Answer.{Answer, gives, refusal, Check}
 use Rattle.day.specs.declared.Refusal.{Refusal}
 use Rattle.lines.specs.Lines.{names, row}
@@ -22,16 +26,27 @@ use Rattle.dayread.specs.Sections.{Hands, NamesTo}
 use Rattle.dayread.specs.declared.Step.{Step}
 use Rattle.dayread.specs.declared.Step.the-variants.{Next, Refused as Stopped}
 
+-- the tag is one of three
+abbrev OneOf : ℕ → ℕ → ℕ → ℕ → Type 0
+OneOf k a b c = (k ≡ a) ⊎ ((k ≡ b) ⊎ (k ≡ c))
+
+none-of : (k a b c : ℕ) → OneOf k a b c → T (not (eqb k a) && not (eqb k b) && not (eqb k c)) → ⊥
+none-of k a b c h t =
+    let (u, z) = both-of (not (eqb k a) && not (eqb k b)) (not (eqb k c)) t in
+    let (x, y) = both-of (not (eqb k a)) (not (eqb k b)) u in
+    let differs : (d : ℕ) → T (not (eqb k d)) → k ≡ d → ⊥ = λ d n e. not-of (eqb k d) n (of-true (eq-eqb k d e)) in
+    ⊎-elim (differs a x) (λ w. ⊎-elim (differs b y) (differs c z) w) h
+
 pub row-handed : (t : List ℕ) (k line : ℕ) (checks : List ℕ → List Check) (s : List ℕ) (r : Line)
-    → (tagOf the-type r ≡ 0) ⊎ ((tagOf the-type r ≡ 2) ⊎ (tagOf the-type r ≡ 3)) → Answers t (rowFound line (row k s)) r → ReadsRow k t (readRow k line checks s) r
+    → OneOf (tagOf the-type r) 0 2 3 → Answers t (rowFound line (row k s)) r → ReadsRow k t (readRow k line checks s) r
 row-handed t k line checks s (Names next) h f = row-not-names line (row k s) _ (f .0)
-row-handed t k line checks s (Row a b c d e next) h f = absurd (⊎-elim (λ z. omega arith) (λ w. ⊎-elim (λ z. omega arith) (λ z. omega arith) w) h)
+row-handed t k line checks s (Row a b c d e next) h f = absurd (none-of 1 0 2 3 h tt)
 row-handed t k line checks s End h f = row-not-end line (row k s) f
 row-handed t k line checks s (Refused r) h f = row-refused line (row k s) r _ f
 
 -- where a move's row or the end is due, the end is handed up too
 pub move-handed : (t word : List ℕ) (line : ℕ) (checks : List ℕ → List Check) (s : List ℕ) (r : Line)
-    → (tagOf the-type r ≡ 0) ⊎ ((tagOf the-type r ≡ 2) ⊎ (tagOf the-type r ≡ 3)) → Answers t (found RowOrEnd word line s) r → ReadsMove t s (readRow 2 line checks s) r
+    → OneOf (tagOf the-type r) 0 2 3 → Answers t (found RowOrEnd word line s) r → ReadsMove t s (readRow 2 line checks s) r
 move-handed t word line checks s r h f =
     ⊎-elim (λ w. at-end r (w .0) (rw (w .1) at f)) (λ w. at-row r (w .0) h (rw (w .1) at f)) (end-or-row word line s)
   where
@@ -41,9 +56,9 @@ move-handed t word line checks s r h f =
     at-end End e0 f = e0
     at-end (Refused r) e0 f = absurd (let z : _≡_ {A = ℕ} 0 1 = cc in omega arith)
 
-    at-row : (r : Line) → (s ≡ [] → ⊥) → (tagOf the-type r ≡ 0) ⊎ ((tagOf the-type r ≡ 2) ⊎ (tagOf the-type r ≡ 3)) → Answers t (rowFound line (row 2 s)) r → ReadsMove t s (readRow 2 line checks s) r
+    at-row : (r : Line) → (s ≡ [] → ⊥) → OneOf (tagOf the-type r) 0 2 3 → Answers t (rowFound line (row 2 s)) r → ReadsMove t s (readRow 2 line checks s) r
     at-row (Names next) n0 h f = row-not-names line (row 2 s) _ (f .0)
-    at-row (Row a b c d e next) n0 h f = absurd (⊎-elim (λ z. omega arith) (λ w. ⊎-elim (λ z. omega arith) (λ z. omega arith) w) h)
+    at-row (Row a b c d e next) n0 h f = absurd (none-of 1 0 2 3 h tt)
     at-row End n0 h f = absurd (row-not-end line (row 2 s) f)
     at-row (Refused r) n0 h f = (row-refused line (row 2 s) r _ f, n0)
 
@@ -56,38 +71,38 @@ pub record Stops {X : Type 0} (answer : Answer X) (r : Step) : Type 0 where
   pub is : answer ≡ refusal refused
 
 pub row-stops : (k : ℕ) (t : List ℕ) (answer : Answer RowRest) (p : ℕ) (line : Line) (r : Step)
-    → (tagOf the-type line ≡ 0) ⊎ ((tagOf the-type line ≡ 2) ⊎ (tagOf the-type line ≡ 3)) → ReadsRow k t answer line → Hands line p r → Stops answer r
+    → OneOf (tagOf the-type line) 0 2 3 → ReadsRow k t answer line → Hands line p r → Stops answer r
 row-stops k t answer p (Names next) r h f g = absurd f
-row-stops k t answer p (Row a b c d e next) r h f g = absurd (⊎-elim (λ z. omega arith) (λ w. ⊎-elim (λ z. omega arith) (λ z. omega arith) w) h)
+row-stops k t answer p (Row a b c d e next) r h f g = absurd (none-of 1 0 2 3 h tt)
 row-stops k t answer p End r h f g = absurd f
 row-stops k t answer p (Refused x) r h f g = record { refused = x; step = g; is = f }
 
 -- the moves end, or a move's row is refused
 pub move-stops : (t s : List ℕ) (answer : Answer RowRest) (p : ℕ) (line : Line) (r : Step)
-    → (tagOf the-type line ≡ 0) ⊎ ((tagOf the-type line ≡ 2) ⊎ (tagOf the-type line ≡ 3)) → ReadsMove t s answer line → Hands line p r
+    → OneOf (tagOf the-type line) 0 2 3 → ReadsMove t s answer line → Hands line p r
     → ((r ≡ Next p) × (s ≡ [])) ⊎ (Stops answer r × (s ≡ [] → ⊥))
 move-stops t s answer p (Names next) r h f g = absurd f
-move-stops t s answer p (Row a b c d e next) r h f g = absurd (⊎-elim (λ z. omega arith) (λ w. ⊎-elim (λ z. omega arith) (λ z. omega arith) w) h)
+move-stops t s answer p (Row a b c d e next) r h f g = absurd (none-of 1 0 2 3 h tt)
 move-stops t s answer p End r h f g = inl (g, f)
 move-stops t s answer p (Refused x) r h f g = inr (record { refused = x; step = g; is = f .0 }, f .1)
 
 pub names-stop : (t word : List ℕ) (n : ℕ) (s : List ℕ) (p : ℕ) (line : Line) (r : Step)
-    → (tagOf the-type line ≡ 1) ⊎ ((tagOf the-type line ≡ 2) ⊎ (tagOf the-type line ≡ 3)) → Answers t (namesFound n (names word s)) line → Hands line p r → NamesTo t (readNames word n s) r
-names-stop t word n s p (Names next) r h f g = absurd (⊎-elim (λ z. omega arith) (λ w. ⊎-elim (λ z. omega arith) (λ z. omega arith) w) h)
+    → OneOf (tagOf the-type line) 1 2 3 → Answers t (namesFound n (names word s)) line → Hands line p r → NamesTo t (readNames word n s) r
+names-stop t word n s p (Names next) r h f g = absurd (none-of 0 1 2 3 h tt)
 names-stop t word n s p (Row a b c d e next) r h f g = absurd (names-not-row n (names word s) (f .values) (drop next t) (f .is))
 names-stop t word n s p End r h f g = absurd (names-not-end n (names word s) f)
 names-stop t word n s p (Refused x) r h f g = rw g (names-refused n (names word s) x (λ u q. gives q) f)
 
-pub goes-on : (p : ℕ) (line : Line) → (tagOf the-type line ≡ 0) ⊎ ((tagOf the-type line ≡ 1) ⊎ (tagOf the-type line ≡ 2)) → Hands line p (Next p)
+pub goes-on : (p : ℕ) (line : Line) → OneOf (tagOf the-type line) 0 1 2 → Hands line p (Next p)
 goes-on p (Names next) h = refl
 goes-on p (Row a b c d e next) h = refl
 goes-on p End h = refl
-goes-on p (Refused x) h = absurd (⊎-elim (λ z. omega arith) (λ w. ⊎-elim (λ z. omega arith) (λ z. omega arith) w) h)
+goes-on p (Refused x) h = absurd (none-of 3 0 1 2 h tt)
 
 -- where a names line is due, any other answer of the line reader is its refusal
 pub head-handed : (t word : List ℕ) (k n : ℕ) (s : List ℕ) (f : List ℕ → Answer RowRest) (line : Line)
-    → (tagOf the-type line ≡ 1) ⊎ ((tagOf the-type line ≡ 2) ⊎ (tagOf the-type line ≡ 3)) → Answers t (namesFound n (names word s)) line → ReadsRow k t (onward (readNames word n s) f) line
-head-handed t word k n s f (Names next) h g = absurd (⊎-elim (λ z. omega arith) (λ w. ⊎-elim (λ z. omega arith) (λ z. omega arith) w) h)
+    → OneOf (tagOf the-type line) 1 2 3 → Answers t (namesFound n (names word s)) line → ReadsRow k t (onward (readNames word n s) f) line
+head-handed t word k n s f (Names next) h g = absurd (none-of 0 1 2 3 h tt)
 head-handed t word k n s f (Row a b c d e next) h g = absurd (names-not-row n (names word s) (g .values) (drop next t) (g .is))
 head-handed t word k n s f End h g = absurd (names-not-end n (names word s) g)
 head-handed t word k n s f (Refused x) h g = rw (names-refused n (names word s) x (λ u q. gives q) g)

@@ -2,22 +2,20 @@
 -- answers that the code gives.
 -- Assumes nothing.
 use mathlib.Core.Path.{_≡_, sym, ap, _∙_, subst}
-use mathlib.Core.Bool.{Bool, true, false, not, cond, _&&_}
+use mathlib.Core.Bool.{true, false}
 use mathlib.Core.List.{List, [], _∷_, _++_}
 use mathlib.Core.Option.{some}
 use Prim.Native.Nat.{ℕ, _-_, _*_, _^_, _≤_, _<_}
-use native.Mathlib.Nat.{le-trans}
 use native.Mathlib.Omega.{arith}
-use lib.Dec.{T, leb, ltb, eqb, leb→le, eqb→eq}
+use lib.Dec.{T}
 use lib.ListN.{length, getD, take, drop, take-append-drop}
 use lib.Seq.{length-take-le}
-use Rattle.fold.specs.Fold.{each-at}
-use Rattle.model.specs.Model.{Yard, cell, Outcome, outcome, boundInside, allowed}
+use Rattle.model.specs.Model.{Yard, Outcome, outcome, boundInside, allowed}
 use Rattle.model.specs.BestOf.{bestOf, best-is, none-is}
 use Rattle.model.specs.Overbooked.{Interval, firstOverbooked}
 use Rattle.day.specs.Answer.{Answer, gives, refuses}
-use Rattle.day.specs.Sound.{dayLimits, receiverSound, pairSound, sound}
-use Rattle.day.specs.SoundLaws.{sound-is, sound-tests}
+use Rattle.day.specs.Sound.{dayLimits, sound}
+use Rattle.day.specs.SoundLaws.{sound-is}
 use Rattle.day.specs.declared.Limits.{Limits}
 use Rattle.feasibility.specs.Verdict.{SomeRow, some-no-row}
 use Rattle.optimum.specs.Layers.{Solved}
@@ -29,27 +27,8 @@ use Rattle.planning.specs.Planning.{costWords, choiceWords, bestAnswer, 
 
 -- ---- a sound day is within the bounds of the tables
 
-pair-limit : (l : Limits) (n width : ℕ) (boxes : List ℕ) (i j : ℕ) → T (pairSound l n width boxes i j) → cell width boxes i j ≤ l .boxes
-unfolding pairSound
-pair-limit l n width boxes i j t = go (ltb i n && ltb j n && not (eqb i j)) t
-  where
-    go : (b : Bool) → T (cond b (leb (cell width boxes i j) (l .boxes)) (eqb (cell width boxes i j) 0)) → cell width boxes i j ≤ l .boxes
-    go true h = leb→le (cell width boxes i j) (l .boxes) h
-    go false h = omega (arith, eqb→eq (cell width boxes i j) 0 h)
-
 pub limited : (l : Limits) (y : Yard) → T (sound l y) → Limited y (l .weight) (l .trains) (l .boxes)
-unfolding receiverSound
-limited l y s =
-    let h = sound-is l y s in
-    let (shape, head, positions, boxes) = sound-tests l y s in
-    record {
-      revisit = h .weights .0;
-      split = h .weights .1;
-      trains = h .trains .1;
-      boxes = λ i j a b.
-          pair-limit l (y .trains) (y .width) (y .boxes) i j
-          (each-at (l .trains) (pairSound l (y .trains) (y .width) (y .boxes) i) (each-at (l .trains) (receiverSound l (y .trains) (y .width) (y .boxes)) boxes i (le-trans a (h .trains .1))) j (le-trans b (h .trains .1)));
-    }
+limited l y s = let h = sound-is l y s in record { revisit = h .weights .0; split = h .weights .1; trains = h .trains .1; boxes = h .boxes }
 
 -- ---- the best row behind the solved table
 

@@ -8,7 +8,7 @@ use lib.ListN.{length}
 use lib.Seq.{length-take-le}
 use Rattle.day.specs.Answer.{gives, refuses}
 use Rattle.day.specs.Sound.{dayLimits, yard}
-use Rattle.day.specs.SoundLaws.{Sound, Shaped, sound-is, sound-tests, shaped-is}
+use Rattle.day.specs.SoundLaws.{Sound, sound-is}
 use Rattle.feasibility.specs.Search.{finds-day}
 use Rattle.feasibility.specs.Verdict.{none-row}
 use Rattle.planning.specs.Laws.{says-nine, says-plan}
@@ -20,9 +20,6 @@ use Rattle.planning.proofs.plan_sound.Tie as tie
 least : (c : tie.Start) → Sound dayLimits (yard (c .args .day))
 least c = sound-is dayLimits (yard (c .args .day)) (c .pre .0)
 
-sizes : (c : tie.Start) → Shaped dayLimits (yard (c .args .day))
-sizes c = shaped-is dayLimits (yard (c .args .day)) (sound-tests dayLimits (yard (c .args .day)) (c .pre .0) .0)
-
 slice-aggregate-first-overbooked : tie.Need-slice-aggregate-first-overbooked
 slice-aggregate-first-overbooked c = search needs
 
@@ -30,7 +27,7 @@ slice-aggregate-first-overbooked-2 : tie.Need-slice-aggregate-first-overbooked-2
 slice-aggregate-first-overbooked-2 c = search needs
 
 first-overbooked-requires : tie.Need-first-overbooked-requires
-first-overbooked-requires c κs = (omega (arith, sizes (c .before .before .before .before .before .before .before .before) .first, least (c .before .before .before .before .before .before .before .before) .trains .1), omega (arith, sizes (c .before .before .before .before .before .before .before .before) .last, least (c .before .before .before .before .before .before .before .before) .trains .1))
+first-overbooked-requires c κs = (omega (arith, least (c .before .before .before .before .before .before .before .before) .shape .first, least (c .before .before .before .before .before .before .before .before) .trains .1), omega (arith, least (c .before .before .before .before .before .before .before .before) .shape .last, least (c .before .before .before .before .before .before .before .before) .trains .1))
 
 enum-known-found : tie.Need-enum-known-found
 enum-known-found c = search needs
@@ -54,7 +51,7 @@ place-trains-requires c κs =
     (pre .0, (none-row (yard (a .day)) (least (c .before .before .before .before .before .before .before .before .before .before .before .before .before .before) .windows) f, pre .1))
 
 slice-aggregate-value-slots : tie.Need-slice-aggregate-value-slots
-slice-aggregate-value-slots c = sym (sizes (c .before .before .before .before .before .before .before .before .before .before .before .before .before .before .before .before .before .before .before .before .before .before) .boxes)
+slice-aggregate-value-slots c = sym (least (c .before .before .before .before .before .before .before .before .before .before .before .before .before .before .before .before .before .before .before .before .before .before) .shape .boxes)
 
 slice-reshare-prefix-value-slots : tie.Need-slice-reshare-prefix-value-slots
 slice-reshare-prefix-value-slots c = subst (λ k. c .before .before .before .before .before .before .before .before .before .before .before .before .before .before .before .before .before .before .before .before .before .before .args .day .trains ≤ k) (sym (c .before .before .before .before .before .before .before .place-trains .kept .1 .1 .1 .0)) (c .before .before .before .before .before .before .before .before .before .before .before .before .before .before .before .before .before .before .before .before .before .before .pre .1 .1 .1 .1)
@@ -66,7 +63,7 @@ value-slots-requires : tie.Need-value-slots-requires
 value-slots-requires c κs =
     let n = c .before .before .before .before .before .before .before .before .before .before .before .before .before .before .before .before .before .before .before .before .before .before .before .args .day .trains in
     let few : n ≤ 12 = least (c .before .before .before .before .before .before .before .before .before .before .before .before .before .before .before .before .before .before .before .before .before .before .before) .trains .1 in
-    let whole : length (c .before .before .before .before .before .before .before .before .before .before .before .before .before .before .before .before .before .before .before .before .before .before .before .args .day .boxes) ≡ 144 = sizes (c .before .before .before .before .before .before .before .before .before .before .before .before .before .before .before .before .before .before .before .before .before .before .before) .boxes in
+    let whole : length (c .before .before .before .before .before .before .before .before .before .before .before .before .before .before .before .before .before .before .before .before .before .before .before .args .day .boxes) ≡ 144 = least (c .before .before .before .before .before .before .before .before .before .before .before .before .before .before .before .before .before .before .before .before .before .before .before) .shape .boxes in
     let long = length-take-le n (c .before .before .before .before .before .before .before .before .place-trains .last .1 .1 .1 .0) (subst (λ k. c .before .before .before .before .before .before .before .before .before .before .before .before .before .before .before .before .before .before .before .before .before .before .before .args .day .trains ≤ k) (sym (c .before .before .before .before .before .before .before .before .place-trains .kept .1 .1 .1 .0)) (c .before .before .before .before .before .before .before .before .before .before .before .before .before .before .before .before .before .before .before .before .before .before .before .pre .1 .1 .1 .1)) in
     record { few = omega arith; narrow = few; whole = omega arith; long = omega (arith, long) }
 

@@ -6,7 +6,7 @@ use native.Mathlib.Nat.{pow-le-pow-right}
 use native.Mathlib.Omega.{arith}
 use lib.Dec.{lit≤}
 use Rattle.day.specs.Sound.{dayLimits, yard}
-use Rattle.day.specs.SoundLaws.{Sound, Shaped, sound-is, sound-tests, shaped-is}
+use Rattle.day.specs.SoundLaws.{Sound, sound-is}
 use Rattle.staging.specs.FromTables.{DayTables, solved-day}
 use Rattle.tables.specs.Given.{Given}
 use borrow.Author.Needs.{needs}
@@ -17,9 +17,6 @@ use Rattle.planning.proofs.solve_day.Tie as tie
 least : (c : tie.Start) → Sound dayLimits (yard (c .args .day))
 least c = sound-is dayLimits (yard (c .args .day)) (c .pre .0)
 
-sizes : (c : tie.Start) → Shaped dayLimits (yard (c .args .day))
-sizes c = shaped-is dayLimits (yard (c .args .day)) (sound-tests dayLimits (yard (c .args .day)) (c .pre .0) .0)
-
 -- at most 4,096 sets
 small : (c : tie.Start) → c .args .size ≤ 4096
 small c =
@@ -27,7 +24,7 @@ small c =
     omega (arith, most, c .pre .1 .0)
 
 given : (c : tie.Start) → Given (c .args .day .trains) 12 (c .args .day .boxes)
-given c = record { few = least c .trains .1; narrow = least c .trains .1; whole = omega (arith, sizes c .boxes) }
+given c = record { few = least c .trains .1; narrow = least c .trains .1; whole = omega (arith, least c .shape .boxes) }
 
 cast-slots : tie.Need-cast-slots
 cast-slots c = search needs
@@ -60,16 +57,16 @@ slice-aggregate-fill-open : tie.Need-slice-aggregate-fill-open
 slice-aggregate-fill-open c = search needs
 
 slice-aggregate-fill-open-2 : tie.Need-slice-aggregate-fill-open-2
-slice-aggregate-fill-open-2 c = sym (sizes (c .before .before .before .before .before .before .before .before .before .before .before .before .before .before .before .before .before .before .before) .first)
+slice-aggregate-fill-open-2 c = sym (least (c .before .before .before .before .before .before .before .before .before .before .before .before .before .before .before .before .before .before .before) .shape .first)
 
 slice-aggregate-fill-open-3 : tie.Need-slice-aggregate-fill-open-3
-slice-aggregate-fill-open-3 c = sym (sizes (c .before .before .before .before .before .before .before .before .before .before .before .before .before .before .before .before .before .before .before .before) .last)
+slice-aggregate-fill-open-3 c = sym (least (c .before .before .before .before .before .before .before .before .before .before .before .before .before .before .before .before .before .before .before .before) .shape .last)
 
 fill-open-requires : tie.Need-fill-open-requires
 fill-open-requires c κs =
     let n : c .before .before .before .before .before .before .before .before .before .before .before .before .before .before .before .before .before .before .before .before .args .day .trains ≤ 12 = least (c .before .before .before .before .before .before .before .before .before .before .before .before .before .before .before .before .before .before .before .before) .trains .1 in
     let t : c .before .before .before .before .before .before .before .before .before .before .before .before .before .before .before .before .before .before .before .before .args .day .slots ≤ 8 = least (c .before .before .before .before .before .before .before .before .before .before .before .before .before .before .before .before .before .before .before .before) .slots .1 in
-    (n, omega (arith, sizes (c .before .before .before .before .before .before .before .before .before .before .before .before .before .before .before .before .before .before .before .before) .first, n), omega (arith, sizes (c .before .before .before .before .before .before .before .before .before .before .before .before .before .before .before .before .before .before .before .before) .last, n), omega arith, t)
+    (n, omega (arith, least (c .before .before .before .before .before .before .before .before .before .before .before .before .before .before .before .before .before .before .before .before) .shape .first, n), omega (arith, least (c .before .before .before .before .before .before .before .before .before .before .before .before .before .before .before .before .before .before .before .before) .shape .last, n), omega arith, t)
 
 slice-aggregate-solve : tie.Need-slice-aggregate-solve
 slice-aggregate-solve c = search needs
