@@ -1,6 +1,11 @@
 // Plans the day on its standard input twenty times, each time in the same areas, and prints the last plan: revisits, split moves and cost;
 // the row; the words of the two areas joined by exclusive or. bench/run times it against bench/plan.c, which prints the same of the
 // same day. A text that is no day file, and a day without a plan, give 'no plan'.
+ghost use mathlib.Core.Path.{_≡_};
+ghost use lib.ListN.{length};
+ghost use Rattle.day.specs.Sound.{dayLimits, yard};
+ghost use Rattle.planning.specs.Planning.{answer, planned};
+ghost use Rattle.plan_speed.specs.Digest.{digest};
 use day::Day;
 use libc::STDOUT_FILENO;
 use planning::Planned;
@@ -9,7 +14,9 @@ use planning::Planned;
 const PLANS: usize = 20;
 
 // Plans the day PLANS times, and gives the last answer.
-fn plan_often(day: Day, cost: &mut [u64], choice: &mut [u16], row: &mut [u8]) -> Planned {
+fn plan_often(day: Day, cost: &mut [u64], choice: &mut [u16], row: &mut [u8]) -> Planned
+    ensures { λ r. ⌜ answer r ≡ planned dayLimits (yard day) (length (now (cost .entry))) (length (now (choice .entry))) (length (now (row .entry))) ⌝ }
+{
     let mut k: usize = 1;
     while k < PLANS {
         planning::plan(day, cost, choice, row);
@@ -42,7 +49,9 @@ fn print_row(row: &[u8]) {
     io::write_all(STDOUT_FILENO, b"\n");
 }
 
-fn joined_costs(cost: &[u64]) -> u64 {
+fn joined_costs(cost: &[u64]) -> u64
+    ensures { λ r. ⌜ r ≡ digest (length (now (cost .entry))) (now (cost .entry)) ⌝ }
+{
     let mut joined: u64 = 0;
     for i in 0..cost.len() {
         joined = joined ^ cost[i];
@@ -50,7 +59,9 @@ fn joined_costs(cost: &[u64]) -> u64 {
     joined
 }
 
-fn joined_choices(choice: &[u16]) -> u16 {
+fn joined_choices(choice: &[u16]) -> u16
+    ensures { λ r. ⌜ r ≡ digest (length (now (choice .entry))) (now (choice .entry)) ⌝ }
+{
     let mut joined: u16 = 0;
     for i in 0..choice.len() {
         joined = joined ^ choice[i];
@@ -58,7 +69,9 @@ fn joined_choices(choice: &[u16]) -> u16 {
     joined
 }
 
-fn wide16(x: u16) -> u64 {
+fn wide16(x: u16) -> u64
+    ensures { λ r. ⌜ r ≡ x ⌝ }
+{
     x as u64
 }
 

@@ -1,19 +1,22 @@
--- `plan_speed::joined_costs` ends, and reads inside its slice. Assumes nothing.
+-- `plan_speed::joined_costs` meets its contract: the words before i are joined.
+-- Assumes nothing.
 use Prim.Native.Nat.{_≤_, _-_}
-use mathlib.Core.Path.{_≡_}
+use mathlib.Core.Path.{_≡_, ap, _∙_}
+use native.Mathlib.Nat.{le-antisymm}
 use borrow.Author.Needs.{needs}
+use Rattle.plan_speed.specs.Digest.{digest, digest-none, digest-next}
 use lib.ListN.{length}
 use Rattle.plan_speed.proofs.joined_costs.Statement.{statement}
 use Rattle.plan_speed.proofs.joined_costs.Tie as tie
 
 abbrev Inv-loop : tie.InvT-loop
-Inv-loop cost joined₀ i₀ i-end joined i = (i ≤ i-end) × (i-end ≡ length cost)
+Inv-loop cost joined₀ i₀ i-end joined i = (i ≤ i-end) × ((i-end ≡ length cost) × (joined ≡ digest i cost))
 
 abbrev μ-loop : tie.MeasureT-loop
 μ-loop cost joined₀ i₀ i-end joined i = i-end - i
 
 loop-holds : tie.Need-loop-holds Inv-loop μ-loop
-loop-holds c = search needs
+loop-holds c = (search needs, (search needs, digest-none _))
 
 mul-joined : tie.Need-mul-joined Inv-loop μ-loop
 mul-joined c = search needs
@@ -28,10 +31,10 @@ loop-less : tie.Need-loop-less Inv-loop μ-loop
 loop-less c = search needs
 
 loop-again : tie.Need-loop-again Inv-loop μ-loop
-loop-again c = search needs
+loop-again c = (search needs, (search needs, rw (c .before .before .loop .inv .1 .1) (digest-next _ _)))
 
 returns : tie.Need-returns Inv-loop μ-loop
-returns c = search needs
+returns c = c .before .loop .inv .1 .1 ∙ ap (λ k. digest k (c .before .before .args .cost .now)) (le-antisymm (c .before .loop .inv .0) (c .loop-test .left) ∙ c .before .loop .inv .1 .0)
 
 pub joined-costs-spec : {M : Type 1} → statement M
 joined-costs-spec =

@@ -1,4 +1,5 @@
--- `plan_speed::plan_often` ends: the loop's invariant keeps the lengths of the lent areas. Assumes nothing.
+-- `plan_speed::plan_often` meets its contract: a plan depends on the day and on lengths, which the loop keeps.
+-- Assumes nothing.
 use Prim.Native.Nat.{_≤_, _-_}
 use mathlib.Core.Path.{_≡_}
 use borrow.Author.Needs.{needs}
@@ -40,7 +41,7 @@ same-length-3 : tie.Need-same-length-3 Inv-loop μ-loop
 same-length-3 c = search needs
 
 returns : tie.Need-returns Inv-loop μ-loop
-returns c = search needs
+returns c = rw (c .before .before .before .before .before .before .before .before .before .before .before .loop .inv .1 .0, c .before .before .before .before .before .before .before .before .before .before .before .loop .inv .1 .1 .0, c .before .before .before .before .before .before .before .before .before .before .before .loop .inv .1 .1 .1) at (c .before .before .before .before .before .before .plan2 .ensures .0)
 
 pub plan-often-spec : {M : Type 1} → statement M
 plan-often-spec =
