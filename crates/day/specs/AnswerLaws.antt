@@ -1,4 +1,5 @@
--- A call's checks taken together: where all hold the answer is given, and where something is given all hold.
+-- A call's checks taken together: where all hold the answer is given, and where something is given all hold; a check that fails gives
+-- the same refusal whatever would be answered.
 -- Assumes nothing.
 use mathlib.Core.Path.{_≡_, refl, ap, _∙_}
 use mathlib.Core.Bool.{Bool, true, false, cond}
@@ -27,3 +28,9 @@ module _ {X : Type 0} where
           → (T b × AllHold checks) × (a ≡ gives x)
       go true e rest = let (h, q) = rest e in ((tt, h), q)
       go false e rest = absurd (let z : _≡_ {A = ℕ} 0 1 = cc in omega arith)
+
+pub checked-refuses : {X Y : Type 0} (checks : List Check) (x : X) (b : Answer Y) {k : ℕ} {carries : List ℕ} → checked checks (gives x) ≡ refuses k carries
+    → checked checks b ≡ refuses k carries
+checked-refuses [] x b {k} {carries} e = absurd (let z : _≡_ {A = ℕ} 0 1 = cc in omega arith)
+checked-refuses (must true m c ∷ checks) x b e = checked-refuses checks x b e
+checked-refuses (must false m c ∷ checks) x b e = cc

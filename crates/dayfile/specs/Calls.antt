@@ -12,9 +12,10 @@ use lib.Seq.{take-append-seam}
 use Rattle.fold.specs.Test.{is-true, both}
 use Rattle.model.specs.Model.{Yard}
 use Rattle.day.specs.Answer.{Answer, gives, refuses, must, checked}
-use Rattle.day.specs.AnswerLaws.{checked-holds}
 use Rattle.day.specs.Sound.{sound}
 use Rattle.day.specs.declared.Limits.{Limits}
+use Rattle.output.specs.Output.{written, outAfter}
+use Rattle.output.specs.Laws.{fits}
 use Rattle.dayfile.specs.Reading.{readDay}
 use Rattle.dayfile.specs.Writing.{dayText}
 use Rattle.dayfile.specs.Files.{Short}
@@ -43,29 +44,23 @@ dayOrZero l (refuses k carried) = zeroDay l
 -- ---- writing: checks 8, then 10; the count of bytes written, and the output afterwards
 
 unfoldable pub writeAnswer : Limits → Yard → ℕ → Answer ℕ
-writeAnswer l y size =
-    checked (must (sound l y) 8 (0 ∷ []) ∷ must (leb (length (dayText y)) size) 10 (0 ∷ []) ∷ []) (gives (length (dayText y)))
+writeAnswer l y size = checked (must (sound l y) 8 (0 ∷ []) ∷ []) (written (dayText y) size)
 
 unfoldable pub writeAfter : Limits → Yard → List ℕ → List ℕ
-writeAfter l y out = cond (sound l y && leb (length (dayText y)) (length out)) (dayText y ++ drop (length (dayText y)) out) out
+writeAfter l y out = outAfter (writeAnswer l y (length out)) (dayText y) out
 
 -- ---- the round trips
 
 module _ (l : Limits) (short : Short l) where
-  written : (y : Yard) (out : List ℕ) → T (sound l y) → length (dayText y) ≤ length out
+  day-written : (y : Yard) (out : List ℕ) → T (sound l y) → length (dayText y) ≤ length out
       → (writeAnswer l y (length out) ≡ gives (length (dayText y))) × (take (length (dayText y)) (writeAfter l y out) ≡ dayText y)
   unfolding writeAnswer writeAfter
-  written y out s h =
-      let fits = le→leb (length (dayText y)) (length out) h in (
-        checked-holds (must (sound l y) 8 (0 ∷ []) ∷ must (leb (length (dayText y)) (length out)) 10 (0 ∷ []) ∷ []) (gives (length (dayText y))) (s, (fits, tt)),
-        ap (λ b. take (length (dayText y)) (cond b (dayText y ++ drop (length (dayText y)) out) out)) (is-true (sound l y && leb (length (dayText y)) (length out)) (both (sound l y) (leb (length (dayText y)) (length out)) s fits))
-            ∙ take-append-seam (dayText y) (drop (length (dayText y)) out),
-      )
+  day-written y out s h = rw (is-true (sound l y) s) (fits (dayText y) out h)
 
   -- what writing leaves in a long enough output, read, gives the day
   pub written-reads : (y : Yard) (out : List ℕ) → T (sound l y) → length (dayText y) ≤ length out
       → (k : ℕ) × (writeAnswer l y (length out) ≡ gives k) × (readDay l (take k (writeAfter l y out)) ≡ gives y)
-  written-reads y out s h = let (a, t) = written y out s h in (length (dayText y), a, ap (readDay l) t ∙ write-read l y short s)
+  written-reads y out s h = let (a, t) = day-written y out s h in (length (dayText y), a, ap (readDay l) t ∙ write-read l y short s)
 
   -- what reading accepts, written into a long enough output, gives the same bytes
   pub read-writes : (text : List ℕ) (y : Yard) (out : List ℕ) → readDay l text ≡ gives y → length text ≤ length out
@@ -73,5 +68,5 @@ module _ (l : Limits) (short : Short l) where
   read-writes text y out r h =
       let e : text ≡ dayText y = read-write l text y r in
       let s = read-sound l text y r in
-      let (a, t) = written y out s (omega (arith, ap length e)) in
+      let (a, t) = day-written y out s (omega (arith, ap length e)) in
       rw e (a, t)

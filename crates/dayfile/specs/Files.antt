@@ -16,10 +16,10 @@ use Rattle.day.specs.SoundLaws.{Within, within-is}
 use Rattle.day.specs.declared.Limits.{Limits}
 use Rattle.decimal.specs.Parsed.{Parsed, fail, got, no-fail}
 use Rattle.decimal.specs.Decimal.{value}
-use Rattle.lines.specs.Lines.{field, names, row, rowText}
+use Rattle.lines.specs.Lines.{field, names, row, rowText, rowsText}
 use Rattle.lines.specs.Laws.{names-written, names-read, Small, row-written, RowRead, row-read}
 use Rattle.dayfile.specs.Reading.{headNames, trainNames, moveNames, field1, headChecks, trainChecks, moveChecks, onward, orRefuse, readNames, RowRest, readRow, Rows, addRow, readTrains, readMoves, headSection, trainSection, moveSection, File, numbersOf, readFile}
-use Rattle.dayfile.specs.Writing.{rowsText, fileText}
+use Rattle.dayfile.specs.Writing.{fileText}
 
 -- ---- rows that keep the rules
 

@@ -4,7 +4,6 @@
 use mathlib.Core.Path.{_≡_, refl, ap, subst}
 use mathlib.Core.Bool.{Bool, true, false, not, cond, _&&_}
 use mathlib.Core.List.{List, [], _∷_}
-use mathlib.Core.Logic.{⊎-elim}
 use Prim.Native.Nat.{ℕ, zero, suc, _+_, _-_, _*_, _/_, _≤_, _<_}
 use native.Mathlib.Nat.{le-refl, add-zero, add-suc, suc-mul, mul-comm, mul-le-mul-right}
 use native.Mathlib.Omega.{arith}
@@ -13,7 +12,6 @@ use lib.ListN.{length, getD, length-append}
 use borrow.Author.Tests.{eq-eqb}
 use Rattle.fold.specs.Test.{of-true}
 use Rattle.fold.specs.Fold.{each-at}
-use Rattle.fold.specs.Counting.{le-or-lt}
 use Rattle.fold.specs.Listed.{joined}
 use Rattle.model.specs.Model.{Yard, cell}
 use Rattle.day.specs.Answer.{gives}
@@ -21,19 +19,14 @@ use Rattle.day.specs.Sound.{dayLimits, Range, headRanges, trainRanges, moveRang
 use Rattle.day.specs.SoundLaws.{Within, within-is, shaped-is, sound-tests, sound-is}
 use Rattle.day.specs.declared.Limits.{Limits}
 use Rattle.decimal.specs.Decimal.{digitsWithin, digits}
-use Rattle.decimal.specs.Laws.{length-one, length-more}
-use Rattle.lines.specs.Lines.{fieldText, rowText}
+use Rattle.lines.specs.Lines.{rowText, rowsText}
+use Rattle.lines.specs.RowSize.{mostInRow, digits-rise, row-size}
 use Rattle.dayfile.specs.Reading.{headNames, trainNames, moveNames, field1, numbersOf, File, readDay}
-use Rattle.dayfile.specs.Writing.{rowsText, fileText, moveRow, moveRows, fileOf, dayText}
+use Rattle.dayfile.specs.Writing.{fileText, moveRow, moveRows, fileOf, dayText}
 use Rattle.dayfile.specs.Files.{FineTrains, FineMoves}
 use Rattle.dayfile.specs.RoundTrip.{day-fine, read-sound, read-write}
 
 -- ---- the greatest size
-
--- of a row: for each value the digits of the greatest one and the byte after it
-unfoldable pub mostInRow : List Range → ℕ
-mostInRow [] = 0
-mostInRow (r ∷ ranges) = length (digits (r .greatest)) + 1 + mostInRow ranges
 
 -- of a text: the three names lines, one row, a row for each train, a row for each pair of different trains
 unfoldable pub mostBytes : Limits → ℕ
@@ -42,38 +35,7 @@ mostBytes l =
     + l .trains * mostInRow (trainRanges l (l .slots))
     + l .trains * (l .trains - 1) * mostInRow (moveRanges l)
 
--- ---- a value has at most as many digits as a greater one
-
-some-digit : (v : ℕ) → 1 ≤ length (digits v)
-some-digit v = ⊎-elim (λ h. omega (arith, length-more v h)) (λ h. omega (arith, length-one v h)) (le-or-lt 10 v)
-
-digits-within : (k v u : ℕ) → u ≤ k → v ≤ u → length (digits v) ≤ length (digits u)
-digits-within zero v u h g = omega (arith, length-one v (omega arith), some-digit u)
-digits-within (suc k) v u h g =
-    ⊎-elim
-    (λ b. omega (arith, length-more v b, length-more u (omega arith), digits-within k (v / 10) (u / 10) (omega arith) (omega arith)))
-    (λ b. omega (arith, length-one v b, some-digit u))
-    (le-or-lt 10 v)
-
-pub digits-rise : (v u : ℕ) → v ≤ u → length (digits v) ≤ length (digits u)
-digits-rise v u = digits-within u v u (le-refl u)
-
 -- ---- rows
-
-row-size : (ranges : List Range) (values : List ℕ) → length values ≡ length ranges → Within ranges values → length (rowText values) ≤ mostInRow ranges
-unfolding rowText mostInRow
-row-size [] [] e w = omega arith
-row-size [] (v ∷ values) e w = absurd (omega arith)
-row-size (r ∷ ranges) [] e w = omega arith
-row-size (r ∷ ranges) (v ∷ []) e w = omega (arith, length-append (digits v) (10 ∷ []), digits-rise v (r .greatest) (w .0 .1))
-row-size (r ∷ ranges) (v ∷ u ∷ values) e w =
-    omega (
-      arith,
-      length-append (fieldText v 32) (rowText (u ∷ values)),
-      length-append (digits v) (32 ∷ []),
-      digits-rise v (r .greatest) (w .0 .1),
-      row-size ranges (u ∷ values) (omega arith) (w .1),
-    )
 
 module _ (l : Limits) where
   -- a day of fewer slots has no longer rows

@@ -9,13 +9,7 @@ use Rattle.fold.specs.Listed.{listed, joined}
 use Rattle.model.specs.Model.{Yard}
 use Rattle.day.specs.Sound.{headRow, trainRow}
 use Rattle.dayfile.specs.Reading.{headNames, trainNames, moveNames, File}
-use Rattle.lines.specs.Lines.{rowText}
-
--- ---- the text of rows
-
-unfoldable pub rowsText : List (List ℕ) → List ℕ
-rowsText [] = []
-rowsText (r ∷ rows) = rowText r ++ rowsText rows
+use Rattle.lines.specs.Lines.{rowText, rowsText}
 
 unfoldable pub fileText : File → List ℕ
 fileText f = headNames ++ rowText (f .head) ++ trainNames ++ rowsText (f .trains) ++ moveNames ++ rowsText (f .moves)

@@ -1,19 +1,12 @@
--- The writing call's answer in 01's numbers, and the text of a day's sections as the code puts them.
+-- The text of a day's sections as the code puts them.
 -- Assumes nothing.
 use mathlib.Core.List.{List, _++_}
 use Prim.Native.Nat.{ℕ, _*_}
 use Rattle.fold.specs.Listed.{joined}
-use Rattle.day.specs.Answer.{Answer, gives, refusal}
 use Rattle.day.specs.Sound.{trainRow}
-use Rattle.lines.specs.Lines.{rowText}
+use Rattle.lines.specs.Lines.{rowText, rowsText}
 use Rattle.dayfile.specs.Reading.{headNames, trainNames, moveNames}
-use Rattle.dayfile.specs.Writing.{rowsText, moveRows}
-use Rattle.daywrite.specs.declared.Wrote.{Wrote}
-use Rattle.daywrite.specs.declared.Wrote.the-variants.{Bytes, Refused}
-
-abbrev pub answer : Wrote → Answer ℕ
-answer (Bytes count) = gives count
-answer (Refused r) = refusal r
+use Rattle.dayfile.specs.Writing.{moveRows}
 
 -- the first section, by the fields of its row
 abbrev pub headText : List ℕ → List ℕ

@@ -11,23 +11,19 @@ ghost use Rattle.day.specs.Sound.{dayLimits, yard};
 ghost use Rattle.decimal.specs.Place.{Put};
 ghost use Rattle.dayfile.specs.Writing.{dayText};
 ghost use Rattle.dayfile.specs.Calls.{writeAnswer, writeAfter};
-ghost use Rattle.daywrite.specs.Writes.{answer, headText, trainsText, moveText, movesText};
+ghost use Rattle.output.specs.Output.{answer};
+ghost use Rattle.daywrite.specs.Writes.{headText, trainsText, moveText, movesText};
 use day::Day;
 use day::Refusal;
-
-// The count of bytes written, or the refusal.
-pub enum Wrote {
-    Bytes(usize),
-    Refused(Refusal),
-}
+use output::Wrote;
 
 // Puts the first section at the front: its names line and its row. Gives the place after it.
 fn put_head(out: &mut [u8], trains: u64, tracks: u64, slots: u64, revisit: u64, split: u64) -> usize
     requires { ⌜ length (headText (trains ∷ tracks ∷ slots ∷ revisit ∷ split ∷ [])) ≤ length (now out) ⌝ }
     ensures { λ r. ⌜ Put (now (out .entry)) (now (out .exit)) 0 r (headText (trains ∷ tracks ∷ slots ∷ revisit ∷ split ∷ [])) ⌝ }
 {
-    let next = lines::put_bytes(out, 0, &dayfile::HEAD_NAMES);
-    lines::put_five(out, next, trains, tracks, slots, revisit, split)
+    let next = output::put_bytes(out, 0, &dayfile::HEAD_NAMES);
+    output::put_five(out, next, trains, tracks, slots, revisit, split)
 }
 
 // Puts the second section from a place on: its names line and the rows of n trains. Gives the place after it.
@@ -43,9 +39,9 @@ fn put_trains(
     requires { ⌜ at + length (trainsText (now numbers) (now first) (now last) n) ≤ length (now out) ⌝ }
     ensures { λ r. ⌜ Put (now (out .entry)) (now (out .exit)) at r (trainsText (now (numbers .entry)) (now (first .entry)) (now (last .entry)) n) ⌝ }
 {
-    let mut next = lines::put_bytes(out, at, &dayfile::TRAIN_NAMES);
+    let mut next = output::put_bytes(out, at, &dayfile::TRAIN_NAMES);
     for i in 0..n {
-        next = lines::put_three(
+        next = output::put_three(
             out,
             next,
             day::wide32(numbers[i]),
@@ -74,7 +70,7 @@ fn put_move(
     }
     let to = day::wide32(numbers[q / width]);
     let from = day::wide32(numbers[q % width]);
-    lines::put_three(out, at, to, from, day::wide8(boxes[q]))
+    output::put_three(out, at, to, from, day::wide8(boxes[q]))
 }
 
 // Puts the third section from a place on: its names line and the rows of the boxes, in the order of their table. Gives the place
@@ -84,7 +80,7 @@ fn put_moves(out: &mut [u8], at: usize, numbers: &[u32], width: usize, boxes: &[
     requires { ⌜ at + length (movesText (now numbers) width (now boxes)) ≤ length (now out) ⌝ }
     ensures { λ r. ⌜ Put (now (out .entry)) (now (out .exit)) at r (movesText (now (numbers .entry)) width (now (boxes .entry))) ⌝ }
 {
-    let mut next = lines::put_bytes(out, at, &dayfile::MOVE_NAMES);
+    let mut next = output::put_bytes(out, at, &dayfile::MOVE_NAMES);
     let all = width * width;
     for q in 0..all {
         next = put_move(out, next, numbers, width, boxes, q);
@@ -124,9 +120,5 @@ pub fn write_day(day: Day, out: &mut [u8]) -> Wrote
     }
     let mut text = [0u8; 4096];
     let count = put_day(day, &mut text);
-    if out.len() < count {
-        return Wrote::Refused(Refusal::TooShort);
-    }
-    lines::put_bytes(out, 0, &text[..count]);
-    Wrote::Bytes(count)
+    output::write_text(&text[..count], out)
 }

@@ -1,4 +1,5 @@
 pub mod Lines
 pub mod Laws
+pub mod RowSize
 pub mod Reader
 pub mod ReaderLaws

@@ -45,3 +45,7 @@ unfoldable pub rowText : List ℕ → List ℕ
 rowText [] = []
 rowText (v ∷ []) = fieldText v 10
 rowText (v ∷ w ∷ vs) = fieldText v 32 ++ rowText (w ∷ vs)
+
+unfoldable pub rowsText : List (List ℕ) → List ℕ
+rowsText [] = []
+rowsText (r ∷ rows) = rowText r ++ rowsText rows

@@ -1,4 +1,4 @@
--- The line reader at a place of a text: what the byte there does; and the text of a row, value by value.
+-- The line reader at a place of a text: what the byte there does.
 -- Assumes nothing.
 use mathlib.Core.Path.{_≡_}
 use mathlib.Core.List.{List, [], _∷_}
@@ -45,25 +45,3 @@ names-next word i s h = rw (here word i h)
 
 pub row-due : (word : List ℕ) (line : ℕ) (t : List ℕ) (p : ℕ) → p < length t → found RowOrEnd word line (drop p t) ≡ rowFound line (row 2 (drop p t))
 row-due word line t p h = rw (here t p h)
-
--- ---- the text of a row
-
-pub field-length : (v e : ℕ) → length (fieldText v e) ≡ length (digits v) + 1
-field-length v e = length-append (digits v) (e ∷ [])
-
-pub row-length : (v w : ℕ) (vs : List ℕ) → length (rowText (v ∷ w ∷ vs)) ≡ length (fieldText v 32) + length (rowText (w ∷ vs))
-unfolding rowText
-row-length v w vs = length-append (fieldText v 32) (rowText (w ∷ vs))
-
-pub put-row : {l m n : List ℕ} {i j k : ℕ} (v w : ℕ) (vs : List ℕ) → Put l m i j (fieldText v 32) → Put m n j k (rowText (w ∷ vs)) → Put l n i k (rowText (v ∷ w ∷ vs))
-unfolding rowText
-put-row v w vs p q = put-text p q
-
--- ---- bytes stored one after the other
-
-module _ {l m : List ℕ} {p : ℕ} (word : List ℕ) (i : ℕ) where
-  pub put-next : i < length word → Put l m p (p + i) (take i word) → Put l (set m (p + i) (getD word i 0)) p (p + (i + 1)) (take (i + 1) word)
-  put-next h b = rw (← add-assoc p i 1, add-one i, take-suc word i 0 h) (put-byte (getD word i 0) b)
-
-  pub put-all : i ≤ length word → length word ≤ i → Put l m p (p + i) (take i word) → Put l m p (p + length word) word
-  put-all h g b = rw (le-antisymm h g, take-length word) at b

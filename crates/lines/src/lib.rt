@@ -1,13 +1,11 @@
-// The lines of a file: one reader for names lines, rows of values and the end of the text, and the writing of names lines and rows.
+// The lines of a file: one reader for names lines, rows of values and the end of the text.
 //
-// Proved: `read_line` answers what `found` of specs/Reader.antt finds at the place; each `put_..` stores the text of its line and
-// nothing else. Assumes nothing.
+// Proved: `read_line` answers what `found` of specs/Reader.antt finds at the place. Assumes nothing.
 ghost use mathlib.Core.Path.{_≡_};
-ghost use mathlib.Core.List.{[], _∷_};
-ghost use Prim.Native.Nat.{_+_, _≤_};
+ghost use Prim.Native.Nat.{_≤_};
 ghost use lib.ListN.{length, drop};
-ghost use Rattle.decimal.specs.Place.{Put, Answers as Read};
-ghost use Rattle.lines.specs.Lines.{names, field, row, fieldText, rowText};
+ghost use Rattle.decimal.specs.Place.{Answers as Read};
+ghost use Rattle.lines.specs.Lines.{names, field, row};
 ghost use Rattle.lines.specs.Reader.{namesFound, rowFound, found, Answers};
 use day::Refusal;
 use decimal::Field;
@@ -153,47 +151,4 @@ pub fn read_line(text: &[u8], at: usize, line: usize, due: Due, word: &[u8]) -> 
             }
         }
     }
-}
-
-// Writes bytes from a place on, and gives the place after them.
-pub fn put_bytes(out: &mut [u8], at: usize, word: &[u8]) -> usize
-    requires { ⌜ at + length (now word) ≤ length (now out) ⌝ }
-    ensures { λ r. ⌜ Put (now (out .entry)) (now (out .exit)) at r (now (word .entry)) ⌝ }
-{
-    let mut i = 0;
-    while i < word.len() {
-        out[at + i] = word[i];
-        i += 1;
-    }
-    at + word.len()
-}
-
-// Writes a value and the byte that ends it.
-fn put_field(out: &mut [u8], at: usize, v: u64, end: u8) -> usize
-    requires { ⌜ at + length (fieldText v end) ≤ length (now out) ⌝ }
-    ensures { λ r. ⌜ Put (now (out .entry)) (now (out .exit)) at r (fieldText v end) ⌝ }
-{
-    let p = decimal::put_value(out, at, v);
-    out[p] = end;
-    p + 1
-}
-
-// Writes a row of three values.
-pub fn put_three(out: &mut [u8], at: usize, a: u64, b: u64, c: u64) -> usize
-    requires { ⌜ at + length (rowText (a ∷ b ∷ c ∷ [])) ≤ length (now out) ⌝ }
-    ensures { λ r. ⌜ Put (now (out .entry)) (now (out .exit)) at r (rowText (a ∷ b ∷ c ∷ [])) ⌝ }
-{
-    let p = put_field(out, at, a, 32);
-    let q = put_field(out, p, b, 32);
-    put_field(out, q, c, 10)
-}
-
-// Writes a row of five values.
-pub fn put_five(out: &mut [u8], at: usize, a: u64, b: u64, c: u64, d: u64, e: u64) -> usize
-    requires { ⌜ at + length (rowText (a ∷ b ∷ c ∷ d ∷ e ∷ [])) ≤ length (now out) ⌝ }
-    ensures { λ r. ⌜ Put (now (out .entry)) (now (out .exit)) at r (rowText (a ∷ b ∷ c ∷ d ∷ e ∷ [])) ⌝ }
-{
-    let p = put_field(out, at, a, 32);
-    let q = put_field(out, p, b, 32);
-    put_three(out, q, c, d, e)
 }

@@ -11,7 +11,8 @@ use Rattle.day.specs.Sound.{dayLimits, yard, sound}
 use Rattle.day.specs.SoundLaws.{sound-is}
 use Rattle.dayfile.specs.Writing.{dayText}
 use Rattle.dayfile.specs.Size.{day-size, day-most}
-use Rattle.daywrite.specs.Laws.{put-count, put-front, says-unsound, says-short, says-written}
+use Rattle.output.specs.Laws.{put-count, put-front}
+use Rattle.daywrite.specs.Laws.{says-unsound, says-text}
 use borrow.Author.Needs.{needs}
 use Rattle.daywrite.proofs.write_day.Statement.{statement}
 use Rattle.daywrite.proofs.write_day.Tie as tie
@@ -45,26 +46,23 @@ slice-aggregate-put-day c = search needs
 put-day-requires : tie.Need-put-day-requires
 put-day-requires c κs = (sound-is _ _ (of-true (sound-day (c .before))) .trains .1, text-fits (c .before))
 
-returns-2 : tie.Need-returns-2
-returns-2 c = let p = c .before .before in says-short _ _ _ (sound-day (p .before .before)) (omega (arith, count p, c .if2 .taken))
-
 array-share-prefix-text : tie.Need-array-share-prefix-text
-array-share-prefix-text c = let p = c .before .before .before in omega (arith, count p, text-fits (p .before .before), p .put-day .kept .1 .0)
+array-share-prefix-text c = let p = c .before in omega (arith, count p, text-fits (p .before .before), p .put-day .kept .1 .0)
 
-slice-aggregate-put-bytes : tie.Need-slice-aggregate-put-bytes
-slice-aggregate-put-bytes c = let p = c .before .before .before .before in omega (arith, front-length p)
+slice-aggregate-write-text : tie.Need-slice-aggregate-write-text
+slice-aggregate-write-text c = omega (arith, front-length (c .before .before))
 
-put-bytes-requires : tie.Need-put-bytes-requires
-put-bytes-requires c κs = let p = c .before .before .before .before in omega (arith, front-length p, c .before .before .if2 .left)
+write-text-requires : tie.Need-write-text-requires
+write-text-requires c κs = search needs
 
 same-length : tie.Need-same-length
 same-length c = search needs
 
-returns-3 : tie.Need-returns-3
-returns-3 c =
-    let b = c .before .before in
-    let p = b .before .before .before .before .before in
-    rw (count p) (says-written _ _ _ (sound-day (p .before .before)) (omega (arith, count p, b .before .before .before .if2 .left)) (front p) (b .put-bytes .ensures))
+returns-2 : tie.Need-returns-2
+returns-2 c =
+    let w = c .before .before in
+    let p = w .before .before .before .before in
+    says-text _ _ _ (sound-day (p .before .before)) (front p) (w .write-text .ensures .0) (w .write-text .ensures .1)
 
 pub write-day-spec : {M : Type 1} → statement M
 write-day-spec =
@@ -74,9 +72,8 @@ write-day-spec =
     returns
     slice-aggregate-put-day
     put-day-requires
-    returns-2
     array-share-prefix-text
-    slice-aggregate-put-bytes
-    put-bytes-requires
+    slice-aggregate-write-text
+    write-text-requires
     same-length
-    returns-3)
+    returns-2)

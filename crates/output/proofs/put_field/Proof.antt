@@ -1,11 +1,11 @@
--- `lines::put_field` meets its contract. The value's digits, and one store more.
+-- `output::put_field` meets its contract. The value's digits, and one store more.
 -- Assumes nothing.
 use native.Mathlib.Omega.{arith}
 use Rattle.decimal.specs.PlaceLaws.{put-byte}
-use Rattle.lines.specs.ReaderLaws.{field-length}
+use Rattle.output.specs.Laws.{field-length}
 use borrow.Author.Needs.{needs}
-use Rattle.lines.proofs.put_field.Statement.{statement}
-use Rattle.lines.proofs.put_field.Tie as tie
+use Rattle.output.proofs.put_field.Statement.{statement}
+use Rattle.output.proofs.put_field.Tie as tie
 
 put-value-requires : tie.Need-put-value-requires
 put-value-requires c κs = let a = c .before .before .args in omega (arith, field-length (a .v) (a .end))

@@ -1,13 +1,13 @@
--- `lines::put_bytes` meets its contract. The loop's invariant: the bytes passed are stored, one after the other.
+-- `output::put_bytes` meets its contract. The loop's invariant: the bytes passed are stored, one after the other.
 -- Assumes nothing.
 use mathlib.Core.Path.{_≡_, refl}
 use Prim.Native.Nat.{_≤_, _+_, _-_}
 use lib.ListN.{length, take}
 use Rattle.decimal.specs.Place.{Put}
-use Rattle.lines.specs.ReaderLaws.{put-next, put-all}
+use Rattle.output.specs.Laws.{put-next, put-all}
 use borrow.Author.Needs.{needs}
-use Rattle.lines.proofs.put_bytes.Statement.{statement}
-use Rattle.lines.proofs.put_bytes.Tie as tie
+use Rattle.output.proofs.put_bytes.Statement.{statement}
+use Rattle.output.proofs.put_bytes.Tie as tie
 
 abbrev Inv-loop : tie.InvT-loop
 Inv-loop out₀ at word i₀ out i = (i ≤ length word) × (length out ≡ length out₀) × Put out₀ out at (at + i) (take i word)

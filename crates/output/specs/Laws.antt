@@ -1,0 +1,109 @@
+-- Texts put one after the other: bytes, fields, rows, the rows of a section; and a whole text at the front of an output.
+-- Assumes nothing.
+use mathlib.Core.Path.{_≡_, refl, sym, ap, _∙_, subst}
+use mathlib.Core.Bool.{true, false}
+use mathlib.Core.List.{List, [], _∷_, _++_, append-assoc}
+use Prim.Native.Nat.{ℕ, zero, suc, _+_, _≤_, _<_}
+use native.Mathlib.Nat.{add-assoc, le-antisymm, zero-add}
+use native.Mathlib.Numerals.{add-one}
+use native.Mathlib.Omega.{arith}
+use lib.ListN.{length, getD, set, take, drop, length-append}
+use lib.Seq.{sets-eq, take-suc, take-length, take-append-seam}
+use borrow.Author.Tests.{le-leb, lt-leb}
+use Rattle.fold.specs.Listed.{listed, joined, joined-none, joined-next, joined-cons, joined-front}
+use Rattle.day.specs.Answer.{gives, refuses}
+use Rattle.decimal.specs.Decimal.{digits}
+use Rattle.decimal.specs.Place.{Put}
+use Rattle.decimal.specs.PlaceLaws.{put-text, put-byte}
+use Rattle.lines.specs.Lines.{fieldText, rowText, rowsText}
+use Rattle.output.specs.Output.{written, outAfter}
+
+-- ---- bytes stored one after the other
+
+module _ {l m : List ℕ} {p : ℕ} (word : List ℕ) (i : ℕ) where
+  pub put-next : i < length word → Put l m p (p + i) (take i word) → Put l (set m (p + i) (getD word i 0)) p (p + (i + 1)) (take (i + 1) word)
+  put-next h b = rw (← add-assoc p i 1, add-one i, take-suc word i 0 h) (put-byte (getD word i 0) b)
+
+  pub put-all : i ≤ length word → length word ≤ i → Put l m p (p + i) (take i word) → Put l m p (p + length word) word
+  put-all h g b = rw (le-antisymm h g, take-length word) at b
+
+-- ---- the text of a row, value by value
+
+pub field-length : (v e : ℕ) → length (fieldText v e) ≡ length (digits v) + 1
+field-length v e = length-append (digits v) (e ∷ [])
+
+pub row-length : (v w : ℕ) (vs : List ℕ) → length (rowText (v ∷ w ∷ vs)) ≡ length (fieldText v 32) + length (rowText (w ∷ vs))
+unfolding rowText
+row-length v w vs = length-append (fieldText v 32) (rowText (w ∷ vs))
+
+pub put-row : {l m n : List ℕ} {i j k : ℕ} (v w : ℕ) (vs : List ℕ) → Put l m i j (fieldText v 32) → Put m n j k (rowText (w ∷ vs)) → Put l n i k (rowText (v ∷ w ∷ vs))
+unfolding rowText
+put-row v w vs p q = put-text p q
+
+-- ---- rows, one after the other
+
+module _ {l : List ℕ} {i : ℕ} (f : ℕ → List ℕ) where
+  pub put-none : Put l l i i (joined 0 f)
+  put-none = rw (joined-none f) (record { next = omega arith; list = refl })
+
+  pub put-more : {m n : List ℕ} {j h : ℕ} (k : ℕ) → Put l m i j (joined k f) → Put m n j h (f k) → Put l n i h (joined (k + 1) f)
+  put-more k p q = rw (joined-next k f) (put-text p q)
+
+  pub put-end : {m : List ℕ} {j : ℕ} (k n : ℕ) → k ≤ n → n ≤ k → Put l m i j (joined k f) → Put l m i j (joined n f)
+  put-end k n h g p = rw (le-antisymm h g) at p
+
+-- the text of listed and of joined rows
+rows-append : (a b : List (List ℕ)) → rowsText (a ++ b) ≡ rowsText a ++ rowsText b
+unfolding rowsText
+rows-append [] b = refl
+rows-append (r ∷ a) b = ap (λ (s : List ℕ). rowText r ++ s) (rows-append a b) ∙ sym (append-assoc (rowText r) (rowsText a) (rowsText b))
+
+pub rows-listed : (n : ℕ) (f : ℕ → List ℕ) → rowsText (listed n f) ≡ joined n λ i. rowText (f i)
+unfolding rowsText listed
+rows-listed zero f = sym (joined-none _)
+rows-listed (suc n) f =
+    ap (λ (s : List ℕ). rowText (f 0) ++ s) (rows-listed n λ i. f (suc i)) ∙ sym (joined-cons n λ i. rowText (f i))
+
+pub rows-joined : (n : ℕ) (f : ℕ → List (List ℕ)) → rowsText (joined n f) ≡ joined n λ i. rowsText (f i)
+unfolding rowsText joined
+rows-joined zero f = refl
+rows-joined (suc n) f = rows-append (joined n f) (f n) ∙ ap (λ (s : List ℕ). s ++ rowsText (f n)) (rows-joined n f)
+
+-- where a section has room its names line has, and so has each row after those before it
+module _ (names : List ℕ) where
+  pub names-fit : (rows : List ℕ) → length names ≤ length (names ++ rows)
+  names-fit rows = omega (arith, length-append names rows)
+
+  pub row-fits : (f : ℕ → List ℕ) (k n : ℕ) → k < n → length names + length (joined k f) + length (f k) ≤ length (names ++ joined n f)
+  row-fits f k n h =
+      omega (arith, joined-front (k + 1) n f (omega arith), ap length (joined-next k f), length-append (joined k f) (f k), length-append names (joined n f))
+
+-- ---- what is put at the front: it stands there, and the bytes beyond stay
+
+module _ {l m : List ℕ} {j : ℕ} {a : List ℕ} (p : Put l m 0 j a) where
+  pub put-count : j ≡ length a
+  put-count = p .next ∙ zero-add (length a)
+
+  front : length a ≤ length l → m ≡ a ++ drop (length a) l
+  front h = p .list ∙ sets-eq a l 0 (omega arith) ∙ ap (λ (n : ℕ). a ++ drop n l) (zero-add (length a))
+
+  pub put-front : length a ≤ length l → take j m ≡ a
+  put-front h = rw (put-count, front h) (take-append-seam a (drop (length a) l))
+
+-- ---- a whole text: the answer and what is left, by whether it fits
+
+module _ (text out : List ℕ) where
+  pub says-short : length out < length text
+      → (refuses 10 (0 ∷ []) ≡ written text (length out)) × (out ≡ outAfter (written text (length out)) text out)
+  unfolding written
+  says-short h = let e = lt-leb (length text) (length out) h in (simp e, simp e)
+
+  pub says-written : {after : List ℕ} {next : ℕ} → length text ≤ length out → Put out after 0 next text
+      → (gives (length text) ≡ written text (length out)) × (after ≡ outAfter (written text (length out)) text out)
+  unfolding written
+  says-written h p = let e = le-leb (length text) (length out) h in (simp e, front p h ∙ simp e)
+
+  -- in an output that is long enough it stands in the first bytes
+  pub fits : length text ≤ length out → (written text (length out) ≡ gives (length text)) × (take (length text) (outAfter (written text (length out)) text out) ≡ text)
+  unfolding written
+  fits h = let e = le-leb (length text) (length out) h in (simp e, simp e (take-append-seam text (drop (length text) out)))
