@@ -2,3 +2,5 @@ pub mod Answer
 pub mod AnswerLaws
 pub mod Sound
 pub mod SoundLaws
+pub mod Most
+pub mod Numbers

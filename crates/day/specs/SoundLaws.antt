@@ -60,6 +60,7 @@ pub record Sound (l : Limits) (y : Yard) : Type 0 where
   pub tracks : (1 ≤ y .tracks) × (y .tracks ≤ l .tracks)
   pub slots : (1 ≤ y .slots) × (y .slots ≤ l .slots)
   pub weights : (y .revisit ≤ l .weight) × (y .split ≤ l .weight)
+  pub numbers : (i : ℕ) → i < y .trains → (1 ≤ getD (y .numbers) i 0) × (getD (y .numbers) i 0 ≤ l .number)
   pub windows : (i : ℕ) → i < y .trains → (1 ≤ firstSlot y i) × (firstSlot y i ≤ lastSlot y i) × (lastSlot y i ≤ y .slots)
   pub boxes : (i j : ℕ) → i < y .trains → j < y .trains → received y i j ≤ l .boxes
 
@@ -137,8 +138,16 @@ module _ (l : Limits) (y : Yard) where
       go true h = leb→le (received y i j) (l .boxes) h
       go false h = omega (arith, eqb→eq (received y i j) 0 h)
 
+  -- the fields of position i's row
+  train-fields : T positions → (i : ℕ) → i < y .trains → i < l .trains
+      → Within (trainRanges l (y .slots)) (trainRow (y .numbers) (y .first) (y .last) i) × (firstSlot y i ≤ lastSlot y i)
+  unfolding positions
+  train-fields p i h b =
+      let (fields, up, window) = train-tests i h (each-at (l .trains) _ p i b) in
+      (within-is (trainRanges l (y .slots)) (trainRow (y .numbers) (y .first) (y .last) i) fields, window)
+
   pub sound-is : T (sound l y) → Sound l y
-  unfolding headRanges trainRanges receiverSound
+  unfolding headRanges trainRanges receiverSound positions
   sound-is t =
       let (shape, head, p, boxes) = sound-tests t in
       let (n, (g, (s, (w1, (w2, u))))) = within-is (headRanges l) (headRow y) head in
@@ -149,9 +158,9 @@ module _ (l : Limits) (y : Yard) where
         tracks = g;
         slots = s;
         weights = (w1 .1, w2 .1);
+        numbers = λ i h. train-fields p i h (below i h) .0 .0;
         windows = λ i h.
-            let (fields, up, window) = train-tests i h (each-at (l .trains) _ p i (below i h)) in
-            let (number, (first, (last, u))) = within-is (trainRanges l (y .slots)) (trainRow (y .numbers) (y .first) (y .last) i) fields in
+            let ((number, (first, (last, u))), window) = train-fields p i h (below i h) in
             (first .0, window, last .1);
         boxes = λ i j a b. pair-limit i j (each-at (l .trains) _ (each-at (l .trains) _ boxes i (below i a)) j (below j b));
       }

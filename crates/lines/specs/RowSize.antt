@@ -3,7 +3,7 @@
 use mathlib.Core.Path.{_≡_}
 use mathlib.Core.List.{List, [], _∷_}
 use mathlib.Core.Logic.{⊎-elim}
-use Prim.Native.Nat.{ℕ, zero, suc, _+_, _/_, _≤_}
+use Prim.Native.Nat.{ℕ, zero, suc, _+_, _/_, _^_, _≤_, _<_}
 use native.Mathlib.Nat.{le-refl}
 use native.Mathlib.Omega.{arith}
 use lib.ListN.{length, length-append}
@@ -34,6 +34,15 @@ digits-within (suc k) v u h g =
 
 pub digits-rise : (v u : ℕ) → v ≤ u → length (digits v) ≤ length (digits u)
 digits-rise v u = digits-within u v u (le-refl u)
+
+-- a value below 10 ^ (k + 1) has at most k + 1 digits
+pub digits-most : (k v : ℕ) → v < 10 ^ suc k → length (digits v) ≤ suc k
+digits-most zero v h = omega (arith, length-one v (omega arith))
+digits-most (suc k) v h =
+    ⊎-elim
+    (λ b. omega (arith, length-more v b, digits-most k (v / 10) (omega arith)))
+    (λ b. omega (arith, length-one v b))
+    (le-or-lt 10 v)
 
 -- ---- rows
 

@@ -7,11 +7,13 @@ use Prim.Native.Nat.{ℕ, zero, suc, _+_, _≤_, _<_}
 use native.Mathlib.Nat.{add-assoc, le-antisymm, zero-add}
 use native.Mathlib.Numerals.{add-one}
 use native.Mathlib.Omega.{arith}
+use lib.Dec.{leb, leb→le}
 use lib.ListN.{length, getD, set, take, drop, length-append}
 use lib.Seq.{sets-eq, take-suc, take-length, take-append-seam}
 use borrow.Author.Tests.{le-leb, lt-leb}
 use Rattle.fold.specs.Listed.{listed, joined, joined-none, joined-next, joined-cons, joined-front}
-use Rattle.day.specs.Answer.{gives, refuses}
+use Rattle.day.specs.Answer.{gives, refuses, must}
+use Rattle.day.specs.AnswerLaws.{checked-gives}
 use Rattle.decimal.specs.Decimal.{digits}
 use Rattle.decimal.specs.Place.{Put}
 use Rattle.decimal.specs.PlaceLaws.{put-text, put-byte}
@@ -107,3 +109,11 @@ module _ (text out : List ℕ) where
   pub fits : length text ≤ length out → (written text (length out) ≡ gives (length text)) × (take (length text) (outAfter (written text (length out)) text out) ≡ text)
   unfolding written
   fits h = let e = le-leb (length text) (length out) h in (simp e, simp e (take-append-seam text (drop (length text) out)))
+
+-- the count of bytes is no more than the output has
+pub count-fits : (text : List ℕ) (size k : ℕ) → gives k ≡ written text size → k ≤ size
+unfolding written
+count-fits text size k e =
+    let (h, q) = checked-gives (must (leb (length text) size) 10 (0 ∷ []) ∷ []) (gives (length text)) k (sym e) in
+    let same : length text ≡ k = cc in
+    omega (arith, same, leb→le (length text) size (h .0))

@@ -37,11 +37,11 @@ module _ (l : Limits) (y : Yard) (costs choices : ℕ) (row : List ℕ) (begun :
   checks : T (sound l y) × T (suffices y costs choices (length row))
   checks = both-of (sound l y) (suffices y costs choices (length row)) begun
 
-  says : said ≡ bestAnswer y (bestOf y)
+  pub says : said ≡ bestAnswer y (bestOf y)
   unfolding planned
   says = contract ∙ checked-holds (planChecks l y costs choices (length row)) (bestAnswer y (bestOf y)) (checks .0, (checks .1, tt))
 
-  rowIs : after ≡ placed (bestOf y) row
+  pub rowIs : after ≡ placed (bestOf y) row
   unfolding rowAfter
   rowIs = contractRow ∙ ap (λ b. cond b (placed (bestOf y) row) row) (is-true (begins l y costs choices (length row)) begun)
 

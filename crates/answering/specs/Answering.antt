@@ -1,0 +1,43 @@
+-- What yard-plan prints for a text (document 01, "The program"): the plan file of the best row; on refusals 1 to 7 two lines, names and
+-- values, and on 9 two lines with the interval and its trains. This file is what a reader must believe of the program.
+-- Assumes nothing.
+use mathlib.Core.Bool.{cond}
+use mathlib.Core.List.{List, [], _∷_, _++_}
+use mathlib.Core.Option.{Option, none, some}
+use Prim.Native.Nat.{ℕ}
+use lib.Dec.{eqb}
+use Rattle.model.specs.Model.{Yard}
+use Rattle.model.specs.BestOf.{bestOf}
+use Rattle.model.specs.Overbooked.{firstOverbooked}
+use Rattle.day.specs.Answer.{Answer, gives, refuses}
+use Rattle.day.specs.declared.Limits.{Limits}
+use Rattle.lines.specs.Lines.{ascii, rowText}
+use Rattle.dayfile.specs.Reading.{readDay}
+use Rattle.planning.specs.Planning.{carriedBy}
+use Rattle.planfile.specs.PlanText.{planText}
+
+-- ---- a refusal: the names of its values, and its number before them
+
+unfoldable pub lineNames : List ℕ
+lineNames = ascii "refusal line\n"
+
+unfoldable pub intervalNames : List ℕ
+intervalNames = ascii "refusal first last trains\n"
+
+unfoldable pub refusalText : ℕ → List ℕ → List ℕ
+refusalText k carries = cond (eqb k 9) intervalNames lineNames ++ rowText (k ∷ carries)
+
+-- ---- a sound day: the plan file of its best row, or 9 with the first overbooked interval
+
+abbrev pub dayReply : Yard → Option (List ℕ) → List ℕ
+dayReply y (some row) = planText y row
+dayReply y none = refusalText 9 (carriedBy y (firstOverbooked y))
+
+-- ---- a text
+
+abbrev pub reply : Answer Yard → List ℕ
+reply (gives y) = dayReply y (bestOf y)
+reply (refuses k carries) = refusalText k carries
+
+unfoldable pub answerText : Limits → List ℕ → List ℕ
+answerText l text = reply (readDay l text)

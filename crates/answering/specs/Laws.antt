@@ -1,0 +1,138 @@
+-- The laws that the proofs of the answer cite: the two lines of a refusal, the reply to a sound day from what planning has answered, and
+-- the answer to a text from what reading has.
+-- Assumes nothing.
+use mathlib.Core.Path.{_≡_, refl, sym, ap, _∙_}
+use mathlib.Core.Bool.{true, false, cond, _&&_}
+use mathlib.Core.List.{List, [], _∷_, _++_}
+use mathlib.Core.Option.{Option, none, some}
+use Prim.Native.Nat.{ℕ, _+_, _*_, _^_, _≤_, _<_, zero-le}
+use native.Mathlib.Nat.{mul-le-mul}
+use native.Mathlib.Omega.{arith}
+use lib.Dec.{T, eqb, leb, le→leb}
+use lib.ListN.{length, getD, drop, length-append, List·getD-append}
+use lib.Pow.{pow-mono}
+use borrow.Author.Tests.{eq-eqb, ne-eqb}
+use Rattle.fold.specs.Test.{both}
+use Rattle.fold.specs.Listed.{listed, listed-ext}
+use Rattle.model.specs.Model.{Yard, Outcome, outcome}
+use Rattle.model.specs.BestOf.{bestOf, is-best}
+use Rattle.model.specs.Rows.{allowed-is}
+use Rattle.day.specs.Answer.{Answer, gives, refuses, number, carried}
+use Rattle.day.specs.Numbers.{Tells, values, carried-values}
+use Rattle.day.specs.Sound.{dayLimits, Range, range, sound}
+use Rattle.day.specs.SoundLaws.{Within, sound-is}
+use Rattle.day.specs.declared.Limits.{Limits}
+use Rattle.day.specs.declared.Numbered.{Numbered}
+use Rattle.day.specs.declared.Refusal.{Refusal}
+use Rattle.lines.specs.Lines.{rowText, rowsText}
+use Rattle.lines.specs.RowSize.{mostInRow, digits-most, row-size}
+use Rattle.dayfile.specs.Reading.{readDay}
+use Rattle.planning.specs.Planning.{begins, suffices, costWords, choiceWords, bestAnswer, placed}
+use Rattle.planfile.specs.PlanText.{valueNames, slotNames, slotRow, planLines, planText}
+use Rattle.planfile.specs.Size.{plan-size, plan-most}
+use Rattle.answering.specs.Answering.{lineNames, intervalNames, refusalText, dayReply, reply, answerText}
+
+-- ---- the two lines of a refusal, as the code tells it
+
+module _ (r : Refusal) (t : Numbered) (tells : Tells (number r) (carried r) t) where
+  pub nine-lines : t .number ≡ 9 → refusalText (number r) (carried r) ≡ intervalNames ++ rowText (9 ∷ t .first ∷ t .second ∷ t .third ∷ [])
+  unfolding refusalText
+  nine-lines e =
+      let nine : number r ≡ 9 = sym (tells .number) ∙ e in
+      ap (λ v. cond (eqb (number r) 9) intervalNames lineNames ++ rowText (number r ∷ v)) (carried-values r)
+      ∙ rw (nine, tells .first, tells .second, tells .third)
+
+  pub other-lines : (t .number ≡ 9 → ⊥) → refusalText (number r) (carried r) ≡ lineNames ++ rowText (t .number ∷ t .first ∷ [])
+  unfolding refusalText
+  other-lines h =
+      ap (λ v. cond (eqb (number r) 9) intervalNames lineNames ++ rowText (number r ∷ v)) (carried-values r)
+      ∙ rw (ne-eqb (number r) 9 (λ e. h (tells .number ∙ e)), tells .number, tells .first)
+
+-- they hold numbers of 64 bits, and so fit
+abbrev word : Range
+word = range 0 18446744073709551615
+
+word-digits : mostInRow (word ∷ []) ≤ 21
+unfolding mostInRow
+word-digits = omega (arith, digits-most 19 18446744073709551615 (omega arith))
+
+abbrev pub Word : ℕ → Type 0
+Word v = v ≤ 18446744073709551615
+
+pub nine-fits : (a b c : ℕ) → Word a → Word b → Word c → length (intervalNames ++ rowText (9 ∷ a ∷ b ∷ c ∷ [])) ≤ 124
+unfolding intervalNames mostInRow
+nine-fits a b c h i j =
+    omega (
+      arith,
+      length-append intervalNames (rowText (9 ∷ a ∷ b ∷ c ∷ [])),
+      row-size (word ∷ word ∷ word ∷ word ∷ []) (9 ∷ a ∷ b ∷ c ∷ []) refl ((zero-le, omega arith), ((zero-le, h), ((zero-le, i), ((zero-le, j), tt)))),
+      word-digits,
+    )
+
+pub other-fits : (k a : ℕ) → Word k → Word a → length (lineNames ++ rowText (k ∷ a ∷ [])) ≤ 124
+unfolding lineNames mostInRow
+other-fits k a h i =
+    omega (
+      arith,
+      length-append lineNames (rowText (k ∷ a ∷ [])),
+      row-size (word ∷ word ∷ []) (k ∷ a ∷ []) refl ((zero-le, h), ((zero-le, i), tt)),
+      word-digits,
+    )
+
+-- ---- the areas of 4,096 and 32,768 words and the row of 12 bytes suffice for every sound day
+
+pub begun : (y : Yard) → T (sound dayLimits y) → T (begins dayLimits y 4096 32768 12)
+begun y s =
+    let is = sound-is dayLimits y s in
+    let sets : 2 ^ y .trains ≤ 4096 = pow-mono (is .trains .1) in
+    both (sound dayLimits y) (suffices y 4096 32768 12) s
+    (both (leb (costWords y) 4096 && leb (choiceWords y) 32768) (leb (y .trains) 12)
+    (both (leb (costWords y) 4096) (leb (choiceWords y) 32768) (le→leb _ _ sets) (le→leb _ _ (mul-le-mul (is .slots .1) sets)))
+    (le→leb _ _ (is .trains .1)))
+
+-- ---- the reply to a sound day, from planning's answer and its row
+
+-- the plan file reads no more of a row than its n slots
+lines-front : (n : ℕ) (numbers : List ℕ) (o : Outcome) (best beyond : List ℕ) → length best ≡ n → planLines n numbers o (best ++ beyond) ≡ planLines n numbers o best
+unfolding planLines
+lines-front n numbers o best beyond long =
+    ap (λ rows. valueNames ++ rowText (o .revisits ∷ o .splits ∷ o .cost ∷ []) ++ slotNames ++ rowsText rows)
+    (listed-ext n (slotRow numbers (best ++ beyond)) (slotRow numbers best)
+    (λ i h. ap (λ x. getD numbers i 0 ∷ x ∷ []) (List·getD-append best beyond 0 i (omega arith))))
+
+module _ (y : Yard) where
+  pub refused-reply : (r : Refusal) → refuses (number r) (carried r) ≡ bestAnswer y (bestOf y) → refusalText (number r) (carried r) ≡ dayReply y (bestOf y)
+  refused-reply r e = go (bestOf y) e
+    where
+      go : (b : Option (List ℕ)) → refuses (number r) (carried r) ≡ bestAnswer y b → refusalText (number r) (carried r) ≡ dayReply y b
+      go none e = cc
+      go (some row) e = absurd (let z : _≡_ {A = ℕ} 0 1 = cc in omega arith)
+
+  module _ (s : T (sound dayLimits y)) {o : Outcome} (row : List ℕ) (e : gives o ≡ bestAnswer y (bestOf y)) where
+    pub plan-reply : planLines (y .trains) (y .numbers) o (placed (bestOf y) row) ≡ dayReply y (bestOf y)
+    plan-reply = go (bestOf y) refl e
+      where
+        go : (b : Option (List ℕ)) → bestOf y ≡ b → gives o ≡ bestAnswer y b → planLines (y .trains) (y .numbers) o (placed b row) ≡ dayReply y b
+        go none f e = absurd (let z : _≡_ {A = ℕ} 0 1 = cc in omega arith)
+        go (some best) f e =
+            let same : o ≡ outcome y best = cc in
+            lines-front (y .trains) (y .numbers) o best (drop (length best) row) (allowed-is y best (is-best y best f .isAllowed) .long)
+            ∙ ap (λ v. planLines (y .trains) (y .numbers) v best) same
+
+    pub plan-fits : length (planLines (y .trains) (y .numbers) o (placed (bestOf y) row)) ≤ 124
+    plan-fits = rw plan-reply (go (bestOf y) refl e)
+      where
+        go : (b : Option (List ℕ)) → bestOf y ≡ b → gives o ≡ bestAnswer y b → length (dayReply y b) ≤ 124
+        go none f e = absurd (let z : _≡_ {A = ℕ} 0 1 = cc in omega arith)
+        go (some best) f e = omega (arith, plan-size dayLimits y best (sound-is dayLimits y s) (is-best y best f .isAllowed), plan-most)
+
+-- ---- the answer to a text, from what reading has answered
+
+module _ (l : Limits) (text : List ℕ) where
+  pub refused-answer : (r : Refusal) → refuses (number r) (carried r) ≡ readDay l text → refusalText (number r) (carried r) ≡ answerText l text
+  unfolding answerText
+  refused-answer r e = ap reply e
+
+  pub accepted-answer : (y : Yard) → gives y ≡ readDay l text → dayReply y (bestOf y) ≡ answerText l text
+  unfolding answerText
+  accepted-answer y e = ap reply e

@@ -1,0 +1,79 @@
+// The answer of yard-plan (document 01, "The program"): from the text of a day file to the bytes that are printed, the plan file of the
+// best row or the two lines of a refusal.
+//
+// Proved: for every text and every output `answer_text` answers and leaves what `answerText` of specs/Answering.antt says, and 124 bytes
+// of output always suffice. Assumes nothing.
+ghost use mathlib.Core.Path.{_≡_};
+ghost use Prim.Native.Nat.{_≤_};
+ghost use lib.Dec.{T};
+ghost use lib.ListN.{length};
+ghost use Rattle.model.specs.BestOf.{bestOf};
+ghost use Rattle.day.specs.Answer.{number, carried};
+ghost use Rattle.day.specs.Sound.{dayLimits, yard, sound};
+ghost use Rattle.decimal.specs.Place.{Put};
+ghost use Rattle.output.specs.Output.{answer, written, outAfter};
+ghost use Rattle.answering.specs.Answering.{refusalText, dayReply, answerText};
+use day::Day;
+use day::Refusal;
+use dayread::Outcome;
+use output::Wrote;
+use planning::Planned;
+
+const LINE_NAMES: [u8; 13] = *b"refusal line\n";
+
+const INTERVAL_NAMES: [u8; 26] = *b"refusal first last trains\n";
+
+// Puts the two lines of a refusal at the front. Gives their length.
+fn put_refusal(out: &mut [u8], refusal: Refusal) -> usize
+    requires { ⌜ 124 ≤ length (now out) ⌝ }
+    ensures { λ r. ⌜ Put (now (out .entry)) (now (out .exit)) 0 r (refusalText (number refusal) (carried refusal)) × (r ≤ 124) ⌝ }
+{
+    let told = day::in_numbers(refusal);
+    if told.number == 9 {
+        let next = output::put_bytes(out, 0, &INTERVAL_NAMES);
+        return output::put_four(out, next, 9, told.first, told.second, told.third);
+    }
+    let next = output::put_bytes(out, 0, &LINE_NAMES);
+    output::put_two(out, next, told.number, told.first)
+}
+
+// Plans a sound day and puts the reply at the front: the plan file of the best row, or the two lines of 9. Gives its length. The areas
+// are local; they suffice for every sound day.
+fn put_best(out: &mut [u8], day: Day) -> usize
+    requires { ⌜ T (sound dayLimits (yard day)) × (124 ≤ length (now out)) ⌝ }
+    ensures { λ r. ⌜ Put (now (out .entry)) (now (out .exit)) 0 r (dayReply (yard day) (bestOf (yard day))) × (r ≤ 124) ⌝ }
+{
+    let numbers = day.numbers;
+    let mut cost = [0u64; 4096];
+    let mut choice = [0u16; 32768];
+    let mut row = [0u8; 12];
+    match planning::plan(day, &mut cost, &mut choice, &mut row) {
+        Planned::Refused(refusal) => put_refusal(out, refusal),
+        Planned::Plan(value) => planfile::put_plan(out, &numbers, &row, day.trains, value),
+    }
+}
+
+// Reads a text and puts the answer at the front. Gives its length.
+fn put_answer(text: &[u8], out: &mut [u8]) -> usize
+    requires { ⌜ 124 ≤ length (now out) ⌝ }
+    ensures { λ r. ⌜ Put (now (out .entry)) (now (out .exit)) 0 r (answerText dayLimits (now (text .entry))) × (r ≤ 124) ⌝ }
+{
+    let reading = dayread::read_day(text);
+    let outcome = reading.outcome;
+    match outcome {
+        Outcome::Refused(refusal) => put_refusal(out, refusal),
+        Outcome::Accepted => put_best(out, reading.day),
+    }
+}
+
+// Answers a text. The output is lent: its first bytes become the answer, the others stay; 10 where it is too short, and then no byte
+// changes.
+pub fn answer_text(text: &[u8], out: &mut [u8]) -> Wrote
+    ensures { λ r. ⌜ answer r ≡ written (answerText dayLimits (now (text .entry))) (length (now (out .entry))) ⌝ }
+    ensures { λ r. ⌜ now (out .exit) ≡ outAfter (written (answerText dayLimits (now (text .entry))) (length (now (out .entry)))) (answerText dayLimits (now (text .entry))) (now (out .entry)) ⌝ }
+    ensures { λ r. ⌜ length (answerText dayLimits (now (text .entry))) ≤ 124 ⌝ }
+{
+    let mut reply = [0u8; 124];
+    let count = put_answer(text, &mut reply);
+    output::write_text(&reply[..count], out)
+}

@@ -1,0 +1,37 @@
+-- A refusal as the code tells it: its number and the values that it carries, 0 where there are fewer than three.
+-- Assumes nothing.
+use mathlib.Core.Path.{_≡_, refl, sym, _∙_}
+use mathlib.Core.Bool.{cond}
+use mathlib.Core.List.{List, [], _∷_}
+use Prim.Native.Nat.{ℕ}
+use lib.Dec.{eqb}
+use lib.ListN.{getD}
+use Rattle.day.specs.Answer.{number, carried}
+use Rattle.day.specs.declared.Numbered.{Numbered}
+use Rattle.day.specs.declared.Refusal.{Refusal}
+use Rattle.day.specs.declared.Refusal.the-variants.{NamesLine, RowForm, OutOfLimits, NumberOrder, WindowOrder, UnknownTrain, PairOrder, Unsound, NoAllowedRow, TooShort, RowLength, OutsideWindow, SlotOverfull}
+
+pub record Tells (k : ℕ) (carries : List ℕ) (r : Numbered) : Type 0 where
+  pub number : r .number ≡ k
+  pub first : r .first ≡ getD carries 0 0
+  pub second : r .second ≡ getD carries 1 0
+  pub third : r .third ≡ getD carries 2 0
+
+-- 9 carries three values, every other refusal one
+abbrev pub values : ℕ → List ℕ → List ℕ
+values k carries = cond (eqb k 9) (getD carries 0 0 ∷ getD carries 1 0 ∷ getD carries 2 0 ∷ []) (getD carries 0 0 ∷ [])
+
+pub carried-values : (r : Refusal) → carried r ≡ values (number r) (carried r)
+carried-values (NamesLine line) = refl
+carried-values (RowForm line) = refl
+carried-values (OutOfLimits line) = refl
+carried-values (NumberOrder line) = refl
+carried-values (WindowOrder line) = refl
+carried-values (UnknownTrain line) = refl
+carried-values (PairOrder line) = refl
+carried-values Unsound = refl
+carried-values (NoAllowedRow first last trains) = refl
+carried-values TooShort = refl
+carried-values RowLength = refl
+carried-values (OutsideWindow position) = refl
+carried-values (SlotOverfull slot) = refl

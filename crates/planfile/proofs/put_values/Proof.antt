@@ -1,0 +1,43 @@
+-- `planfile::put_values` meets its contract. The names line, and the row after it.
+-- Assumes nothing.
+use native.Mathlib.Omega.{arith}
+use lib.ListN.{length-append}
+use Rattle.decimal.specs.PlaceLaws.{put-text}
+use Rattle.lines.specs.Lines.{rowText}
+use Rattle.valuing.specs.Valuing.{outcomeOf}
+use Rattle.planfile.specs.PlanText.{valueNames, valueRow}
+use borrow.Author.Needs.{needs}
+use Rattle.planfile.proofs.put_values.Statement.{statement}
+use Rattle.planfile.proofs.put_values.Tie as tie
+
+slice-aggregate-put-bytes : tie.Need-slice-aggregate-put-bytes
+slice-aggregate-put-bytes c = search needs
+
+put-bytes-requires : tie.Need-put-bytes-requires
+unfolding valueNames
+put-bytes-requires c κs =
+    let s = c .before .before .before .args in
+    omega (arith, length-append valueNames (rowText (valueRow (outcomeOf (s .value)))))
+
+put-three-requires : tie.Need-put-three-requires
+unfolding valueNames
+put-three-requires c κs =
+    let b = c .before .before .before in
+    let s = b .before .before .before .before .args in
+    omega (arith, length-append valueNames (rowText (valueRow (outcomeOf (s .value)))), b .put-bytes .ensures .next)
+
+same-length : tie.Need-same-length
+same-length c = search needs
+
+returns : tie.Need-returns
+unfolding valueNames
+returns c =
+    let r = c .before .before in
+    let b = r .before .before .before .before in
+    let s = b .before .before .before .before .args in
+    put-text {b = rowText (valueRow (outcomeOf (s .value)))} (b .put-bytes .ensures) (r .put-three .ensures)
+
+pub put-values-spec : {M : Type 1} → statement M
+put-values-spec =
+    tie.close
+    (tie.spec slice-aggregate-put-bytes put-bytes-requires put-three-requires same-length returns)

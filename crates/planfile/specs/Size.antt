@@ -1,0 +1,83 @@
+-- The greatest size of a plan file: that of an allowed row of a sound day has at most as many bytes as the limits allow; with the limits
+-- of document 01 these are no more than 124. Stated over any limits: others only change the number.
+-- Assumes nothing.
+use mathlib.Core.Path.{_≡_, refl}
+use mathlib.Core.List.{List, [], _∷_, _++_}
+use Prim.Native.Nat.{ℕ, zero, suc, _+_, _*_, _≤_, _<_, zero-le}
+use native.Mathlib.Nat.{le-trans, suc-mul, mul-le-mul-right}
+use native.Mathlib.Omega.{arith}
+use lib.Dec.{T}
+use lib.ListN.{length, getD, length-append}
+use Rattle.fold.specs.Listed.{listed}
+use Rattle.model.specs.Model.{Yard, slotOf, weighed, outcome, allowed}
+use Rattle.model.specs.Rows.{allowed-is}
+use Rattle.day.specs.Sound.{dayLimits, Range, range, sound}
+use Rattle.day.specs.SoundLaws.{Sound, Within, sound-is}
+use Rattle.day.specs.Most.{mostSplits, mostCost, sound-revisits, sound-splits, sound-cost}
+use Rattle.day.specs.declared.Limits.{Limits}
+use Rattle.lines.specs.Lines.{rowText, rowsText}
+use Rattle.lines.specs.RowSize.{mostInRow, digits-most, row-size}
+use Rattle.planfile.specs.PlanText.{valueNames, slotNames, valueRow, slotRow, planLines, planText}
+
+-- ---- the greatest size
+
+unfoldable pub valueRanges : Limits → List Range
+valueRanges l = range 0 (l .trains) ∷ range 0 (mostSplits l) ∷ range 0 (mostCost l) ∷ []
+
+unfoldable pub slotRanges : Limits → List Range
+slotRanges l = range 1 (l .number) ∷ range 1 (l .slots) ∷ []
+
+-- the two names lines, one row, a row for each train
+unfoldable pub mostBytes : Limits → ℕ
+mostBytes l = length valueNames + length slotNames + mostInRow (valueRanges l) + l .trains * mostInRow (slotRanges l)
+
+-- ---- rows of one form
+
+rows-size : (ranges : List Range) (n : ℕ) (f : ℕ → List ℕ) → ((i : ℕ) → i < n → (length (f i) ≡ length ranges) × Within ranges (f i))
+    → length (rowsText (listed n f)) ≤ n * mostInRow ranges
+unfolding rowsText listed
+rows-size ranges zero f h = zero-le
+rows-size ranges (suc n) f h =
+    omega (
+      arith,
+      length-append (rowText (f 0)) (rowsText (listed n λ i. f (suc i))),
+      row-size ranges (f 0) (h 0 (omega arith) .0) (h 0 (omega arith) .1),
+      rows-size ranges n (λ i. f (suc i)) (λ i k. h (suc i) (omega arith)),
+      suc-mul n (mostInRow ranges),
+    )
+
+-- ---- the plan file of an allowed row
+
+module _ (l : Limits) (y : Yard) (row : List ℕ) (s : Sound l y) (a : T (allowed y row)) where
+  values-size : length (rowText (valueRow (outcome y row))) ≤ mostInRow (valueRanges l)
+  unfolding valueRanges
+  values-size =
+      row-size (valueRanges l) (valueRow (outcome y row)) refl
+      ((zero-le, sound-revisits l y row s), ((zero-le, sound-splits l y row s), ((zero-le, sound-cost l y row s), tt)))
+
+  slots-size : length (rowsText (listed (y .trains) (slotRow (y .numbers) row))) ≤ l .trains * mostInRow (slotRanges l)
+  unfolding slotRanges
+  slots-size =
+      let slotted = allowed-is y row a .slotted in
+      le-trans
+      (rows-size (slotRanges l) (y .trains) (slotRow (y .numbers) row)
+      (λ i h. (refl, (s .numbers i h, ((slotted i h .0, le-trans (slotted i h .1) (s .slots .1)), tt)))))
+      (mul-le-mul-right {m = y .trains} {n = l .trains} (mostInRow (slotRanges l)) (s .trains .1))
+
+  pub plan-size : length (planText y row) ≤ mostBytes l
+  unfolding mostBytes planLines
+  plan-size = simp length-append (omega (arith, values-size, slots-size))
+
+-- ---- with the limits of 01
+
+pub plan-most : mostBytes dayLimits ≤ 124
+unfolding mostBytes mostInRow valueRanges slotRanges mostSplits mostCost weighed valueNames slotNames
+plan-most =
+    omega (
+      arith,
+      digits-most 1 12 (omega arith),
+      digits-most 4 33660 (omega arith),
+      digits-most 9 2206694520 (omega arith),
+      digits-most 2 255 (omega arith),
+      digits-most 0 8 (omega arith),
+    )

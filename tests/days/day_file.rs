@@ -1,0 +1,178 @@
+//! The day file: its names and limits, reading and writing it.
+
+use crate::model::{
+    Boxes, Day, Train, MOST_BOXES, MOST_SLOTS, MOST_TRACKS, MOST_TRAINS, MOST_TRAIN_NUMBER,
+    MOST_WEIGHT,
+};
+
+// ---------------------------------------------------------------------------
+// Reading a day file (01, The day file; refusals 1 to 7)
+// ---------------------------------------------------------------------------
+
+pub const HEAD_NAMES: &str = "trains tracks slots revisit split";
+pub const TRAIN_NAMES: &str = "train first last";
+pub const MOVE_NAMES: &str = "to from boxes";
+
+#[derive(Clone, Copy, Debug, PartialEq)]
+pub struct Refusal {
+    pub number: usize,
+    pub line: usize,
+}
+
+/// Least and greatest value of a field.
+pub type Limits = (usize, usize);
+
+pub const HEAD_LIMITS: [Limits; 5] =
+    [(1, MOST_TRAINS), (1, MOST_TRACKS), (1, MOST_SLOTS), (0, MOST_WEIGHT), (0, MOST_WEIGHT)];
+
+pub fn train_limits(slots: usize) -> [Limits; 3] {
+    [(1, MOST_TRAIN_NUMBER), (1, slots), (1, slots)]
+}
+
+pub const MOVE_LIMITS: [Limits; 3] =
+    [(1, MOST_TRAIN_NUMBER), (1, MOST_TRAIN_NUMBER), (1, MOST_BOXES)];
+
+/// The lines of a text, taken downwards; `taken` is the number of the line
+/// taken last, so that an absent line counts as the one after the last.
+struct Lines<'a> {
+    rest: &'a [u8],
+    taken: usize,
+}
+
+impl<'a> Lines<'a> {
+    fn at_end(&self) -> bool {
+        self.rest.is_empty()
+    }
+
+    /// The next line without its byte 10; nothing where the line is absent or
+    /// where its byte 10 is, for then it has a wrong form.
+    fn take(&mut self) -> Option<&'a [u8]> {
+        self.taken += 1;
+        let end = self.rest.iter().position(|&byte| byte == b'\n')?;
+        let line = &self.rest[..end];
+        self.rest = &self.rest[end + 1..];
+        Some(line)
+    }
+
+    fn refuse<T>(&self, number: usize) -> Result<T, Refusal> {
+        Err(Refusal { number, line: self.taken })
+    }
+
+    fn names(&mut self, names: &str) -> Result<(), Refusal> {
+        match self.take() {
+            Some(line) if line == names.as_bytes() => Ok(()),
+            _ => self.refuse(1),
+        }
+    }
+
+    /// A row of values: the form of the whole line first, then the limits.
+    fn row(&mut self, limits: &[Limits]) -> Result<Vec<usize>, Refusal> {
+        let Some(values) = self.take().and_then(values_of) else {
+            return self.refuse(2);
+        };
+        if values.len() != limits.len() {
+            return self.refuse(2);
+        }
+        let within = |(value, limits): (&usize, &Limits)| limits.0 <= *value && *value <= limits.1;
+        if !values.iter().zip(limits).all(within) {
+            return self.refuse(3);
+        }
+        Ok(values)
+    }
+}
+
+/// The values of a line, if it consists of values parted by one space each.
+fn values_of(line: &[u8]) -> Option<Vec<usize>> {
+    line.split(|&byte| byte == b' ').map(value_of).collect()
+}
+
+/// One to five digits without leading zeros.
+fn value_of(field: &[u8]) -> Option<usize> {
+    let form = (1..=5).contains(&field.len()) && field.iter().all(u8::is_ascii_digit);
+    if !form || (field.len() > 1 && field[0] == b'0') {
+        return None;
+    }
+    Some(field.iter().fold(0, |sum, digit| 10 * sum + usize::from(digit - b'0')))
+}
+
+pub fn read_day(text: &[u8]) -> Result<Day, Refusal> {
+    let mut lines = Lines { rest: text, taken: 0 };
+    lines.names(HEAD_NAMES)?;
+    let head = lines.row(&HEAD_LIMITS)?;
+    lines.names(TRAIN_NAMES)?;
+    let trains = read_trains(&mut lines, head[0], head[2])?;
+    lines.names(MOVE_NAMES)?;
+    let boxes = read_moves(&mut lines, &trains)?;
+    Ok(Day {
+        tracks: head[1],
+        slots: head[2],
+        revisit_weight: head[3],
+        split_weight: head[4],
+        trains,
+        boxes,
+    })
+}
+
+fn read_trains(lines: &mut Lines, count: usize, slots: usize) -> Result<Vec<Train>, Refusal> {
+    let mut trains: Vec<Train> = Vec::new();
+    while trains.len() < count {
+        let row = lines.row(&train_limits(slots))?;
+        let train = Train { number: row[0], first: row[1], last: row[2] };
+        if trains.last().is_some_and(|before| train.number <= before.number) {
+            return lines.refuse(4);
+        }
+        if train.first > train.last {
+            return lines.refuse(5);
+        }
+        trains.push(train);
+    }
+    Ok(trains)
+}
+
+fn read_moves(lines: &mut Lines, trains: &[Train]) -> Result<Boxes, Refusal> {
+    let position = |number: usize| trains.iter().position(|train| train.number == number);
+    let mut boxes = [[0; MOST_TRAINS]; MOST_TRAINS];
+    let mut before: Option<(usize, usize)> = None;
+    while !lines.at_end() {
+        let row = lines.row(&MOVE_LIMITS)?;
+        let pair = (row[0], row[1]);
+        let (Some(to), Some(from)) = (position(pair.0), position(pair.1)) else {
+            return lines.refuse(6);
+        };
+        if to == from {
+            return lines.refuse(6);
+        }
+        if before.is_some_and(|before| pair <= before) {
+            return lines.refuse(7);
+        }
+        boxes[to][from] = row[2];
+        before = Some(pair);
+    }
+    Ok(boxes)
+}
+
+// ---------------------------------------------------------------------------
+// Writing a day file
+// ---------------------------------------------------------------------------
+
+/// A day file of a day, its moves in the order of the pairs. Positions rise
+/// with the train numbers, so the pairs of numbers rise with the positions.
+pub fn write_day(day: &Day) -> Vec<u8> {
+    let n = day.trains.len();
+    let weights = format!("{} {}", day.revisit_weight, day.split_weight);
+    let mut text = format!("{HEAD_NAMES}\n{n} {} {} {weights}\n", day.tracks, day.slots);
+    text += &format!("{TRAIN_NAMES}\n");
+    for Train { number, first, last } in &day.trains {
+        text += &format!("{number} {first} {last}\n");
+    }
+    text += &format!("{MOVE_NAMES}\n");
+    for i in 0..n {
+        for j in 0..n {
+            if day.boxes[i][j] > 0 {
+                let (to, from) = (day.trains[i].number, day.trains[j].number);
+                text += &format!("{to} {from} {}\n", day.boxes[i][j]);
+            }
+        }
+    }
+    text.into_bytes()
+}

@@ -1,0 +1,127 @@
+//! What 01 says: its days with known outcome and its examples of refusals.
+
+use crate::day_file::{HEAD_NAMES, MOVE_NAMES, TRAIN_NAMES};
+
+/// What 01 says of a text.
+#[derive(Debug)]
+pub enum Known {
+    /// The slots by position; revisits, splits and cost.
+    Best(&'static [usize], [usize; 3]),
+    /// First slot, last slot and trains bound inside.
+    Overbooked([usize; 3]),
+    /// Number and line.
+    Refused(usize, usize),
+}
+
+pub struct KnownDay {
+    pub name: &'static str,
+    head: &'static str,
+    trains: &'static [&'static str],
+    moves: &'static [&'static str],
+    pub outcome: Known,
+}
+
+impl KnownDay {
+    pub fn text(&self) -> Vec<u8> {
+        day_text(self.head, self.trains, self.moves)
+    }
+}
+
+/// The text with these rows; whether it is sound is the rows' affair.
+pub fn day_text(head: &str, trains: &[&str], moves: &[&str]) -> Vec<u8> {
+    let lines = [&[HEAD_NAMES, head, TRAIN_NAMES], trains, &[MOVE_NAMES], moves].concat();
+    (lines.join("\n") + "\n").into_bytes()
+}
+
+const P1_HEAD: &str = "4 2 2 1 1";
+pub const P1_TRAINS: &[&str] = &["1 1 2", "2 1 2", "3 1 2", "4 1 2"];
+pub const P1_MOVES: &[&str] = &["1 4 1", "3 1 3", "3 4 5", "4 2 6", "4 3 1"];
+const P6_TRAINS: &[&str] = &["1 1 2", "2 1 2", "3 1 2", "4 2 2"];
+
+const fn known(
+    name: &'static str,
+    head: &'static str,
+    trains: &'static [&'static str],
+    moves: &'static [&'static str],
+    outcome: Known,
+) -> KnownDay {
+    KnownDay { name, head, trains, moves, outcome }
+}
+
+/// P2 and P3 value a given assignment of P1's day: see `KNOWN_VALUES`.
+#[rustfmt::skip]
+pub const KNOWN_DAYS: [KnownDay; 11] = [
+    known("P1", P1_HEAD, P1_TRAINS, P1_MOVES, Known::Best(&[2, 1, 2, 1], [1, 7, 8])),
+    known("P4", "4 2 2 0 1", P1_TRAINS, P1_MOVES, Known::Best(&[2, 1, 2, 1], [1, 7, 7])),
+    known("P5", "4 2 2 0 0", P1_TRAINS, P1_MOVES, Known::Best(&[2, 2, 1, 1], [2, 10, 0])),
+    known("P6", P1_HEAD, P6_TRAINS, P1_MOVES, Known::Best(&[1, 2, 1, 2], [2, 7, 9])),
+    known("P7", "4 2 2 4 1", P6_TRAINS, P1_MOVES, Known::Best(&[1, 1, 2, 2], [1, 10, 14])),
+    known("P8", "1 1 1 1 1", &["1 1 1"], &[], Known::Best(&[1], [0, 0, 0])),
+    known("P9", "3 2 2 1 1", &["1 1 1", "2 1 1", "3 1 1"], &[], Known::Overbooked([1, 1, 3])),
+    known("P10", "3 1 2 1 1", &["1 1 2", "2 1 2", "3 1 2"], &[], Known::Overbooked([1, 2, 3])),
+    known("P11", "2 1 2 1 1", &["1 1 2", "2 1 2"], &["1 2 1", "2 1 1"], Known::Best(&[2, 1], [1, 2, 3])),
+    known("P12", "2 2 2 1 1", &["1 1 2", "2 1 2"], &["1 2 1", "2 1 1"], Known::Best(&[1, 1], [0, 0, 0])),
+    known("P13", "3 1 3 1 1", &["1 1 3", "2 1 3", "3 1 3"], &["1 2 1"], Known::Best(&[3, 2, 1], [0, 1, 1])),
+];
+
+/// Head and slots on P1's trains and moves; revisits, splits and cost.
+#[rustfmt::skip]
+pub const KNOWN_VALUES: [(&str, &str, [usize; 4], [usize; 3]); 4] = [
+    ("P1", P1_HEAD, [2, 1, 2, 1], [1, 7, 8]),
+    ("P2", P1_HEAD, [2, 1, 1, 2], [1, 15, 16]),
+    ("P3", P1_HEAD, [1, 1, 2, 2], [1, 10, 11]),
+    ("P4, the later row", "4 2 2 0 1", [1, 2, 1, 2], [2, 7, 7]),
+];
+
+/// 01's small inputs for refusals, each in its place in an otherwise good day.
+#[rustfmt::skip]
+pub const SMALL_INPUTS: [KnownDay; 6] = [
+    known("2: a leading zero", P1_HEAD, &["1 01 2"], &[], Known::Refused(2, 4)),
+    known("3: 13 trains", "13 2 2 1 1", &[], &[], Known::Refused(3, 2)),
+    known("4: number twice", "2 2 2 1 1", &["5 1 2", "5 1 2"], &[], Known::Refused(4, 5)),
+    known("5: first above last", "1 2 2 1 1", &["7 2 1"], &[], Known::Refused(5, 4)),
+    known("6: to equals from", P1_HEAD, P1_TRAINS, &["4 4 1"], Known::Refused(6, 9)),
+    known("7: pair before", P1_HEAD, P1_TRAINS, &["3 4 5", "3 1 3"], Known::Refused(7, 10)),
+];
+
+const TWO: &[&str] = &["3 1 2", "9 1 2"];
+
+/// What 01 says of the edges and of the order of the checks.
+#[rustfmt::skip]
+pub const EDGES: [KnownDay; 22] = [
+    known("exactly G trains in a slot", "2 2 1 1 1", &["3 1 1", "9 1 1"], &["3 9 1"], Known::Best(&[1, 1], [0, 0, 0])),
+    known("weights 65535", "2 1 2 65535 65535", TWO, &["3 9 1"], Known::Best(&[2, 1], [0, 1, 65535])),
+    known("weight 65536", "2 1 2 65536 1", TWO, &[], Known::Refused(3, 2)),
+    known("weight 100000 is no value", "2 1 2 1 100000", TWO, &[], Known::Refused(2, 2)),
+    known("form before limits", "13 1 2 1 x", TWO, &[], Known::Refused(2, 2)),
+    known("no trains", "0 1 2 1 1", &[], &[], Known::Refused(3, 2)),
+    known("9 slots", "2 1 9 1 1", TWO, &[], Known::Refused(3, 2)),
+    known("13 tracks", "2 13 2 1 1", TWO, &[], Known::Refused(3, 2)),
+    known("too few trains", "3 1 2 1 1", TWO, &[], Known::Refused(2, 6)),
+    known("a row after n trains", "1 1 2 1 1", TWO, &[], Known::Refused(1, 5)),
+    known("last after T", "2 1 2 1 1", &["3 1 3", "9 1 2"], &[], Known::Refused(3, 4)),
+    known("limit before 4", "2 1 2 1 1", &["3 1 2", "3 0 2"], &[], Known::Refused(3, 5)),
+    known("4 before 5", "2 1 2 1 1", &["3 1 2", "3 2 1"], &[], Known::Refused(4, 5)),
+    known("train 255", "1 1 1 1 1", &["255 1 1"], &[], Known::Best(&[1], [0, 0, 0])),
+    known("train 256", "1 1 1 1 1", &["256 1 1"], &[], Known::Refused(3, 4)),
+    known("no boxes", "2 1 2 1 1", TWO, &["3 9 0"], Known::Refused(3, 7)),
+    known("256 boxes", "2 1 2 1 1", TWO, &["3 9 256"], Known::Refused(3, 7)),
+    known("unlisted train", "2 1 2 1 1", TWO, &["3 9 1", "9 4 1"], Known::Refused(6, 8)),
+    known("6 before 7", "2 1 2 1 1", TWO, &["9 3 1", "3 3 1"], Known::Refused(6, 8)),
+    known("the same pair twice", "2 1 2 1 1", TWO, &["3 9 1", "3 9 1"], Known::Refused(7, 8)),
+    known("an empty line at the end", "2 1 2 1 1", TWO, &["3 9 1", ""], Known::Refused(2, 8)),
+    known("names among the moves", "2 1 2 1 1", TWO, &[MOVE_NAMES], Known::Refused(2, 7)),
+];
+
+/// Whole texts: ends of lines and of the text, and rows out of place.
+#[rustfmt::skip]
+pub const TEXTS: [(&str, &str, Known); 8] = [
+    ("1: first line `trains`", "trains\n", Known::Refused(1, 1)),
+    ("the empty text", "", Known::Refused(1, 1)),
+    ("names without byte 10", "trains tracks slots revisit split", Known::Refused(1, 1)),
+    ("an absent row", "trains tracks slots revisit split\n", Known::Refused(2, 2)),
+    ("a row without byte 10", "trains tracks slots revisit split\n1 1 1 1 1", Known::Refused(2, 2)),
+    ("absent names", "trains tracks slots revisit split\n1 1 1 1 1\n", Known::Refused(1, 3)),
+    ("a second row", "trains tracks slots revisit split\n1 1 1 1 1\n1 1 1 1 1\n", Known::Refused(1, 3)),
+    ("byte 13", "trains tracks slots revisit split\r\n", Known::Refused(1, 1)),
+];

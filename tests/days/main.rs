@@ -1,0 +1,126 @@
+//! The independent test program of yard-plan.
+//!
+//! It is a second opinion, written from document 01 alone: its own reader of
+//! day files, its own planner that tries every assignment of slots within the
+//! windows, and its own printer. The program under test is run as a process
+//! and its output compared byte for byte with what 01 says.
+//!
+//!     days expect < day.txt        prints what yard-plan has to print
+//!     days examples PROGRAM DIR    runs the stored days of DIR
+//!     days generated PROGRAM       runs drawn days and damaged texts
+//!     days self                    checks this program on 01's known days
+//!
+//! Words: an assignment is 01's row of slots, an interval its stretch, a mask
+//! its set number. A row is here always a row of values in a file.
+//!
+//! Build: rustc -O --edition 2021 -o target/tests/days tests/days/main.rs
+
+mod damage;
+mod day_file;
+mod draft;
+mod draw;
+mod generated;
+mod groups;
+mod known;
+mod model;
+mod plan;
+mod process;
+mod self_check;
+mod special;
+
+use crate::generated::generated;
+use crate::groups::Tests;
+use crate::model::MOST_BYTES_READ;
+use crate::plan::expected;
+use crate::process::{compare_file, escaped};
+use crate::self_check::check_self;
+use std::collections::BTreeSet;
+use std::fs::{self, File};
+use std::io::{self, Read, Write};
+use std::os::fd::AsFd;
+use std::path::{Path, PathBuf};
+use std::process::ExitCode;
+
+// ---------------------------------------------------------------------------
+// Mode: examples
+// ---------------------------------------------------------------------------
+
+/// The stems of the files in a directory that end in `.extension`.
+fn stems(directory: &Path, extension: &str) -> io::Result<BTreeSet<PathBuf>> {
+    let mut stems = BTreeSet::new();
+    for entry in fs::read_dir(directory)? {
+        let path = entry?.path();
+        if path.extension().is_some_and(|found| found == extension) {
+            stems.insert(path.with_extension(""));
+        }
+    }
+    Ok(stems)
+}
+
+/// The stored output has to be both what 01 says and what the program prints.
+fn compare_example(program: &str, stem: &Path) -> Result<(), String> {
+    let complain = |error: io::Error| error.to_string();
+    let day = stem.with_extension("day");
+    let text = fs::read(&day).map_err(complain)?;
+    let stored = fs::read(stem.with_extension("out")).map_err(complain)?;
+    let expected = expected(&text);
+    if stored != expected {
+        let (stored, expected) = (escaped(&stored), escaped(&expected));
+        return Err(format!("stored \"{stored}\"\n  expected \"{expected}\""));
+    }
+    compare_file(program, &day, &expected)
+        .map_err(|got| format!("expected \"{}\"\n  got {got}", escaped(&expected)))
+}
+
+fn examples(program: &str, directory: &Path) -> bool {
+    let mut tests = Tests::new(program);
+    // A directory that cannot be read holds no days, which is a failure below.
+    let days = stems(directory, "day").unwrap_or_default();
+    let outputs = stems(directory, "out").unwrap_or_default();
+    if days.is_empty() {
+        tests.fail(&format!("no days in {}", directory.display()));
+    }
+    for stem in days.symmetric_difference(&outputs) {
+        tests.fail(&format!("{}: day or output missing", stem.display()));
+    }
+    for stem in days.intersection(&outputs) {
+        match compare_example(program, stem) {
+            Ok(()) => tests.passed += 1,
+            Err(what) => tests.fail(&format!("{}\n  {what}", stem.display())),
+        }
+    }
+    tests.finish()
+}
+
+// ---------------------------------------------------------------------------
+// The program
+// ---------------------------------------------------------------------------
+
+/// Prints what yard-plan has to print, and like it reads no byte beyond the
+/// limit: the standard input is read past the library's buffer.
+fn expect() -> io::Result<()> {
+    let input = File::from(io::stdin().as_fd().try_clone_to_owned()?);
+    let mut text = Vec::new();
+    input.take(MOST_BYTES_READ as u64).read_to_end(&mut text)?;
+    io::stdout().write_all(&expected(&text))
+}
+
+fn main() -> ExitCode {
+    let arguments: Vec<String> = std::env::args().skip(1).collect();
+    let arguments: Vec<&str> = arguments.iter().map(String::as_str).collect();
+    let good = match arguments[..] {
+        ["expect"] => expect().is_ok(),
+        ["examples", program, directory] => examples(program, Path::new(directory)),
+        ["generated", program] => generated(program),
+        ["self"] => check_self(),
+        _ => {
+            eprintln!("usage: days expect | examples PROGRAM DIR | generated PROGRAM | self");
+            return ExitCode::from(2);
+        }
+    };
+    if good {
+        ExitCode::SUCCESS
+    } else {
+        ExitCode::FAILURE
+    }
+}

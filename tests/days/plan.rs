@@ -1,0 +1,141 @@
+//! The answer to a text: planning it, and the bytes that are printed for it.
+
+use crate::day_file::{read_day, Refusal};
+use crate::model::{precedes, value, within_tracks, Day, Train, Value, MOST_BYTES_READ};
+
+// ---------------------------------------------------------------------------
+// Planning by trying all assignments (01, The calls)
+// ---------------------------------------------------------------------------
+
+#[derive(Clone, Debug, PartialEq)]
+pub struct Plan {
+    numbers: Vec<usize>,
+    pub assignment: Vec<usize>,
+    pub value: Value,
+}
+
+#[derive(Clone, Copy, Debug, PartialEq)]
+pub struct Interval {
+    pub first: usize,
+    pub last: usize,
+    pub bound: usize,
+}
+
+/// Steps like an odometer through the windows; false after the last.
+fn step(day: &Day, assignment: &mut [usize]) -> bool {
+    for (slot, train) in assignment.iter_mut().zip(&day.trains).rev() {
+        if *slot < train.last {
+            *slot += 1;
+            return true;
+        }
+        *slot = train.first;
+    }
+    false
+}
+
+/// The first of the cheapest allowed assignments, each of which is tried.
+fn best(day: &Day) -> Option<(Vec<usize>, Value)> {
+    let mut assignment: Vec<usize> = day.trains.iter().map(|train| train.first).collect();
+    let mut best: Option<(Vec<usize>, Value)> = None;
+    loop {
+        if within_tracks(day, &assignment) {
+            let value = value(day, &assignment);
+            let better = match &best {
+                None => true,
+                Some((_, least)) if value.cost != least.cost => value.cost < least.cost,
+                Some((earlier, _)) => precedes(&assignment, earlier),
+            };
+            if better {
+                best = Some((assignment.clone(), value));
+            }
+        }
+        if !step(day, &mut assignment) {
+            return best;
+        }
+    }
+}
+
+/// The overbooked interval with the smallest first slot and for it the
+/// smallest last slot.
+fn first_overbooked(day: &Day) -> Option<Interval> {
+    for first in 1..=day.slots {
+        for last in first..=day.slots {
+            let inside = |train: &&Train| first <= train.first && train.last <= last;
+            let bound = day.trains.iter().filter(inside).count();
+            if bound > day.tracks * (last - first + 1) {
+                return Some(Interval { first, last, bound });
+            }
+        }
+    }
+    None
+}
+
+/// What yard-plan has to answer to a text.
+#[derive(Clone, Debug, PartialEq)]
+pub enum Answer {
+    Plan(Plan),
+    Refused(Refusal),
+    Overbooked(Interval),
+}
+
+/// A day has no allowed assignment exactly when an interval is overbooked.
+/// The two are found here independently; if they disagree, it is this test
+/// program that is wrong, and nothing it says can be relied on.
+fn plan(day: &Day) -> Answer {
+    match (best(day), first_overbooked(day)) {
+        (Some((assignment, value)), None) => {
+            let numbers = day.trains.iter().map(|train| train.number).collect();
+            Answer::Plan(Plan { numbers, assignment, value })
+        }
+        (None, Some(interval)) => Answer::Overbooked(interval),
+        (found, interval) => broken(&format!("{day:?} has {found:?}, yet {interval:?}")),
+    }
+}
+
+/// The test program contradicts itself: says so and ends.
+pub fn broken(what: &str) -> ! {
+    println!("the test program itself is wrong: {what}");
+    println!("0 passed, 1 failed");
+    std::process::exit(1)
+}
+
+/// The bytes that the program reads of a text.
+fn part_read(text: &[u8]) -> &[u8] {
+    &text[..text.len().min(MOST_BYTES_READ)]
+}
+
+pub fn answer(text: &[u8]) -> Answer {
+    match read_day(part_read(text)) {
+        Ok(day) => plan(&day),
+        Err(refusal) => Answer::Refused(refusal),
+    }
+}
+
+// ---------------------------------------------------------------------------
+// Writing (01, The program)
+// ---------------------------------------------------------------------------
+
+fn write_plan(plan: &Plan) -> String {
+    let Value { revisits, splits, cost } = plan.value;
+    let mut text = format!("revisits splits cost\n{revisits} {splits} {cost}\ntrain slot\n");
+    for (number, slot) in plan.numbers.iter().zip(&plan.assignment) {
+        text += &format!("{number} {slot}\n");
+    }
+    text
+}
+
+pub fn write_answer(answer: &Answer) -> Vec<u8> {
+    let text = match answer {
+        Answer::Plan(plan) => write_plan(plan),
+        Answer::Refused(Refusal { number, line }) => format!("refusal line\n{number} {line}\n"),
+        Answer::Overbooked(Interval { first, last, bound }) => {
+            format!("refusal first last trains\n9 {first} {last} {bound}\n")
+        }
+    };
+    text.into_bytes()
+}
+
+/// The exact bytes that yard-plan prints for an input.
+pub fn expected(text: &[u8]) -> Vec<u8> {
+    write_answer(&answer(text))
+}

@@ -1,0 +1,115 @@
+//! Mode self: this program checked on what 01 says.
+
+use crate::day_file::{read_day, write_day, Refusal};
+use crate::groups::Tests;
+use crate::known::{
+    day_text, Known, EDGES, KNOWN_DAYS, KNOWN_VALUES, P1_MOVES, P1_TRAINS, SMALL_INPUTS, TEXTS,
+};
+use crate::model::{
+    precedes, value, within_tracks, within_windows, Value, MOST_BYTES_ACCEPTED, MOST_BYTES_READ,
+};
+use crate::plan::{answer, expected, Answer};
+use crate::special::{greatest_day, padded};
+
+/// 01's two files of case P1, as it prints them.
+const P1_FILE: &str = "trains tracks slots revisit split
+4 2 2 1 1
+train first last
+1 1 2
+2 1 2
+3 1 2
+4 1 2
+to from boxes
+1 4 1
+3 1 3
+3 4 5
+4 2 6
+4 3 1
+";
+const P1_PLAN: &str = "revisits splits cost\n1 7 8\ntrain slot\n1 2\n2 1\n3 2\n4 1\n";
+
+fn agrees(answer: &Answer, known: &Known) -> bool {
+    match (answer, known) {
+        (Answer::Plan(plan), Known::Best(slots, numbers)) => {
+            let Value { revisits, splits, cost } = plan.value;
+            plan.assignment == *slots && [revisits, splits, cost] == *numbers
+        }
+        (Answer::Overbooked(found), Known::Overbooked(numbers)) => {
+            [found.first, found.last, found.bound] == *numbers
+        }
+        (Answer::Refused(refusal), &Known::Refused(number, line)) => {
+            *refusal == Refusal { number, line }
+        }
+        _ => false,
+    }
+}
+
+impl Tests<'_> {
+    fn check(&mut self, holds: bool, what: &str) {
+        match holds {
+            true => self.passed += 1,
+            false => self.fail(what),
+        }
+    }
+
+    fn check_text(&mut self, name: &str, text: &[u8], known: &Known) {
+        let answer = answer(text);
+        self.check(agrees(&answer, known), &format!("{name}: {answer:?}, but 01 says {known:?}"));
+    }
+}
+
+fn check_values(tests: &mut Tests) {
+    for (name, head, slots, numbers) in KNOWN_VALUES {
+        let day = read_day(&day_text(head, P1_TRAINS, P1_MOVES)).expect("a good day");
+        let Value { revisits, splits, cost } = value(&day, &slots);
+        let found = [revisits, splits, cost];
+        tests.check(found == numbers, &format!("{name}: {found:?}, but 01 says {numbers:?}"));
+    }
+    tests.check(precedes(&[2, 1, 2, 1], &[1, 2, 1, 2]), "P4: the later row comes first");
+    tests.check(!precedes(&[1, 2, 1, 2], &[2, 1, 2, 1]), "P4: each row comes first");
+    let day = read_day(P1_FILE.as_bytes()).expect("a good day");
+    tests.check(!within_windows(&day, &[0, 1, 2, 2]), "12: slot 0 passes");
+    tests.check(!within_tracks(&day, &[1, 1, 1, 2]), "13: three trains on two tracks pass");
+    tests.check(within_tracks(&day, &[1, 1, 2, 2]), "two trains on two tracks do not pass");
+}
+
+fn check_printing(tests: &mut Tests) {
+    let print = |text: &[u8]| String::from_utf8(expected(text)).expect("ASCII");
+    tests.check(KNOWN_DAYS[0].text() == P1_FILE.as_bytes(), "P1's file differs from 01's");
+    tests.check(print(P1_FILE.as_bytes()) == P1_PLAN, "P1's plan is printed otherwise");
+    tests.check(print(b"") == "refusal line\n1 1\n", "a refusal is printed otherwise");
+    let overbooked = print(&KNOWN_DAYS[6].text());
+    let wanted = "refusal first last trains\n9 1 1 3\n";
+    tests.check(overbooked == wanted, "refusal 9 is printed otherwise");
+}
+
+/// 12 trains pass and 13 don't; the greatest file has the length that 01 says.
+fn check_sizes(tests: &mut Tests) {
+    for (count, known) in [(12, Known::Best(&[1; 12], [0; 3])), (13, Known::Refused(3, 2))] {
+        let trains: Vec<String> = (1..=count).map(|number| format!("{number} 1 1")).collect();
+        let trains: Vec<&str> = trains.iter().map(String::as_str).collect();
+        let text = day_text(&format!("{count} 12 1 1 1"), &trains, &[]);
+        tests.check_text(&format!("{count} trains"), &text, &known);
+    }
+    let greatest = write_day(&greatest_day());
+    tests.check(greatest.len() == MOST_BYTES_ACCEPTED, "the greatest day has another length");
+    tests.check(read_day(&greatest) == Ok(greatest_day()), "the greatest day reads otherwise");
+    let unended = &greatest[..greatest.len() - 1];
+    tests.check_text("no byte 10 at the end", unended, &Known::Refused(2, 148));
+    let longer = padded(&greatest, b"255 254 255\n", 2 * MOST_BYTES_READ);
+    tests.check_text("a 133rd move", &longer, &Known::Refused(7, 149));
+}
+
+pub fn check_self() -> bool {
+    let mut tests = Tests::new("");
+    for day in KNOWN_DAYS.iter().chain(&SMALL_INPUTS).chain(&EDGES) {
+        tests.check_text(day.name, &day.text(), &day.outcome);
+    }
+    for (name, text, known) in TEXTS {
+        tests.check_text(name, text.as_bytes(), &known);
+    }
+    check_values(&mut tests);
+    check_printing(&mut tests);
+    check_sizes(&mut tests);
+    tests.finish()
+}
