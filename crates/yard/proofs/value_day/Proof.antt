@@ -1,0 +1,55 @@
+-- `yard::value_day` meets its contract. By the two cases of valuing.
+-- Assumes nothing.
+use mathlib.Core.Path.{_≡_, sym, ap, _∙_}
+use Rattle.valuing.specs.Valuing.{answer}
+use Rattle.yard.specs.Laws.{told-values, told-same}
+use borrow.Author.Needs.{needs}
+use Rattle.yard.proofs.value_day.Statement.{statement}
+use Rattle.yard.proofs.value_day.Tie as tie
+
+value-assignment-requires : tie.Need-value-assignment-requires
+value-assignment-requires c κs = search needs
+
+enum-known-value : tie.Need-enum-known-value
+enum-known-value c = search needs
+
+store-three-requires : tie.Need-store-three-requires
+store-three-requires c κs = search needs
+
+enum-known-refusal : tie.Need-enum-known-refusal
+enum-known-refusal c = search needs
+
+tell-requires : tie.Need-tell-requires
+tell-requires c κs = search needs
+
+same-length : tie.Need-same-length
+same-length c = search needs
+
+returns : tie.Need-returns
+returns c =
+    let t = c .before .before in
+    let k = t .before .before in
+    told-values (sym (ap answer (k .before .value .given .1)) ∙ k .before .before .before .value-assignment .ensures) (t .store-three .ensures)
+
+same-length-2 : tie.Need-same-length-2
+same-length-2 c = search needs
+
+returns-2 : tie.Need-returns-2
+returns-2 c =
+    let t = c .before .before in
+    let k = t .before .before in
+    told-same (sym (ap answer (k .before .refusal .given .1)) ∙ k .before .before .before .value-assignment .ensures) (t .tell .ensures)
+
+pub value-day-spec : {M : Type 1} → statement M
+value-day-spec =
+    tie.close
+    (tie.spec
+    value-assignment-requires
+    enum-known-value
+    store-three-requires
+    enum-known-refusal
+    tell-requires
+    same-length
+    returns
+    same-length-2
+    returns-2)

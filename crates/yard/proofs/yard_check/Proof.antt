@@ -1,0 +1,38 @@
+-- `yard::yard_check` meets its contract. By the two cases of reading.
+-- Assumes nothing.
+use mathlib.Core.Path.{_≡_, sym, ap, _∙_}
+use Rattle.day.specs.Sound.{yard}
+use Rattle.dayread.specs.Whole.{answer}
+use Rattle.yard.specs.Interface.{code, line}
+use borrow.Author.Needs.{needs}
+use Rattle.yard.proofs.yard_check.Statement.{statement}
+use Rattle.yard.proofs.yard_check.Tie as tie
+
+read-day-requires : tie.Need-read-day-requires
+read-day-requires c κs = search needs
+
+enum-told : tie.Need-enum-told
+enum-told c = search needs
+
+enum-known-outcome : tie.Need-enum-known-outcome
+enum-known-outcome c = search needs
+
+in-numbers-requires : tie.Need-in-numbers-requires
+in-numbers-requires c κs = search needs
+
+returns : tie.Need-returns
+returns c =
+    let d = c .before .before in
+    let e = sym (ap (λ o. answer o (yard (d .read-day .result .day))) (c .enum-told .given .1)) ∙ d .read-day .ensures .0 in
+    (ap code e, ap line e)
+
+returns-2 : tie.Need-returns-2
+returns-2 c =
+    let d = c .before .before .before .before in
+    let e = sym (ap (λ o. answer o (yard (d .read-day .result .day))) (c .before .before .outcome .given .1)) ∙ d .read-day .ensures .0 in
+    (c .in-numbers .ensures .number ∙ ap code e, c .in-numbers .ensures .first ∙ ap line e)
+
+pub yard-check-spec : {M : Type 1} → statement M
+yard-check-spec =
+    tie.close
+    (tie.spec read-day-requires enum-told enum-known-outcome in-numbers-requires returns returns-2)

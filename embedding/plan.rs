@@ -1,0 +1,72 @@
+//! Plans a day from Rust, through the C interface: reads a day file, prints the answer, then checks the text and values P1's row.
+//!
+//!     rt staticlib yard
+//!     rustc -O --edition 2021 -L target/staticlib -o target/plan_rs embedding/plan.rs
+//!     target/plan_rs examples/p01.day
+
+use std::io::Write;
+
+/// The functions of include/yard.h, where their contracts stand.
+mod sys {
+    #[link(name = "yard", kind = "static")]
+    extern "C" {
+        pub fn yard_answer(text: *const u8, text_length: usize, out: *mut u8, out_length: usize, bytes: *mut usize) -> u64;
+        pub fn yard_check(text: *const u8, text_length: usize, line: *mut u64) -> u64;
+        pub fn yard_value(
+            text: *const u8,
+            text_length: usize,
+            row: *const u8,
+            row_length: usize,
+            numbers: *mut u64,
+            numbers_length: usize,
+        ) -> u64;
+    }
+}
+
+/// A refusal: its number and what it carries.
+#[derive(Debug)]
+struct Refusal {
+    number: u64,
+    carries: [u64; 3],
+}
+
+/// What yard-plan prints for a text. 124 bytes suffice for every answer.
+fn answer(text: &[u8]) -> Vec<u8> {
+    let mut out = vec![0u8; 124];
+    let mut bytes = 0usize;
+    // A slice has the length that it says, and the three do not overlap: that is all the function asks.
+    let refusal = unsafe { sys::yard_answer(text.as_ptr(), text.len(), out.as_mut_ptr(), out.len(), &mut bytes) };
+    assert_eq!(refusal, 0);
+    out.truncate(bytes);
+    out
+}
+
+/// Whether a text is a day file.
+fn check(text: &[u8]) -> Result<(), Refusal> {
+    let mut line = 0u64;
+    match unsafe { sys::yard_check(text.as_ptr(), text.len(), &mut line) } {
+        0 => Ok(()),
+        number => Err(Refusal { number, carries: [line, 0, 0] }),
+    }
+}
+
+/// Revisits, split moves and cost of a row of slots.
+fn value(text: &[u8], row: &[u8]) -> Result<[u64; 3], Refusal> {
+    let mut numbers = [0u64; 3];
+    let refusal = unsafe { sys::yard_value(text.as_ptr(), text.len(), row.as_ptr(), row.len(), numbers.as_mut_ptr(), numbers.len()) };
+    match refusal {
+        0 => Ok(numbers),
+        number => Err(Refusal { number, carries: numbers }),
+    }
+}
+
+fn main() -> std::io::Result<()> {
+    let name = std::env::args().nth(1).expect("usage: plan_rs DAY");
+    let text = std::fs::read(name)?;
+    std::io::stdout().write_all(&answer(&text))?;
+    match check(&text) {
+        Ok(()) => println!("row 2 1 1 2: {:?}", value(&text, &[2, 1, 1, 2])),
+        Err(refusal) => println!("no day file: refusal {}, line {}", refusal.number, refusal.carries[0]),
+    }
+    Ok(())
+}

@@ -1,0 +1,67 @@
+/* The yard slot planner for programs in C: plan a day, check a day file, value a row of slots.
+ *
+ * The functions are proved (crates/yard): for every text, every row and all lent memory they return and leave exactly what stands here.
+ * They keep no state, allocate nothing, and may be called from several threads at once. A call uses up to about 200 KB of stack.
+ *
+ * Build the library with the Rattle kit and link it:
+ *     rt staticlib yard                                   (writes target/staticlib/libyard.a)
+ *     cc -Iinclude program.c target/staticlib/libyard.a
+ *
+ * Texts are bytes with a length; no zero byte ends them. Memory that is lent must have the length given beside it, and memory that a
+ * function writes must not overlap other memory lent to the same call. A length may be 0; the pointer must then still not be null.
+ *
+ * Every function returns 0, or the number of a refusal (document 01; docs/FORMAT.md says what to do about each):
+ *      1  a names line is absent or differs          2  a row is absent or has another form
+ *      3  a value is outside its limits              4  a train number isn't above the one before
+ *      5  first is above last                        6  a move names an unlisted train, or to equals from
+ *      7  a move's pair isn't after the pair before  9  no row is allowed (printed by yard_answer, never returned)
+ *     10  lent memory is shorter than needed        11  the row's length isn't the number of trains
+ *     12  a slot lies outside its train's window    13  a slot holds more trains than there are tracks
+ */
+#ifndef YARD_H
+#define YARD_H
+
+#include <stddef.h>
+#include <stdint.h>
+
+#ifdef __cplusplus
+extern "C" {
+#endif
+
+/* Bytes of output that suffice for every answer. */
+#define YARD_ANSWER_BYTES 124
+
+/* Plans the day of a text: what the program yard-plan prints for it, byte for byte. That is the plan file; or, for a text that is no day
+ * file, the two lines of refusals 1 to 7; or, for a day without a plan, the two lines of refusal 9.
+ *
+ * text, text_length   the day file. No byte of it changes.
+ * out, out_length     the answer goes into its first bytes; bytes beyond stay as they were. YARD_ANSWER_BYTES always suffice.
+ * bytes               holds the count of bytes of the answer afterwards.
+ *
+ * Returns 0, or 10 where out is shorter than the answer: then no byte of out has changed, and *bytes is 0. */
+uint64_t yard_answer(const uint8_t *text, size_t text_length, uint8_t *out, size_t out_length, size_t *bytes);
+
+/* Checks whether a text is a day file.
+ *
+ * text, text_length   any bytes. None of them changes.
+ * line                holds 0 afterwards, or the line of the refusal, counted from 1.
+ *
+ * Returns 0, or the refusal, 1 to 7. */
+uint64_t yard_check(const uint8_t *text, size_t text_length, uint64_t *line);
+
+/* Values a row of slots on the day of a text.
+ *
+ * text, text_length        the day file. No byte of it changes.
+ * row, row_length          the slot of each train, in the order of the day file, slots counted from 1. No byte of it changes.
+ * numbers, numbers_length  room for at least three numbers. Afterwards the first three hold revisits, split moves and cost; after a
+ *                          refusal what it carries, then zeros: 1 to 7 the line, 11 nothing, 12 the lowest position outside its window,
+ *                          13 the lowest slot with too many trains, both counted from 1. Numbers beyond stay as they were.
+ *
+ * Returns 0, or the refusal: 10 where numbers_length is below 3 (then no number has changed), else 1 to 7, 11, 12 or 13. */
+uint64_t yard_value(const uint8_t *text, size_t text_length, const uint8_t *row, size_t row_length, uint64_t *numbers, size_t numbers_length);
+
+#ifdef __cplusplus
+}
+#endif
+
+#endif
