@@ -4,6 +4,7 @@
 // Proved: for every text and every output `answer_text` answers and leaves what `answerText` of specs/Answering.antt says, and 124 bytes
 // of output always suffice. Assumes nothing.
 ghost use mathlib.Core.Path.{_≡_};
+ghost use mathlib.Core.List.{[]};
 ghost use Prim.Native.Nat.{_≤_};
 ghost use lib.Dec.{T};
 ghost use lib.ListN.{length};
@@ -11,7 +12,7 @@ ghost use Rattle.model.specs.BestOf.{bestOf};
 ghost use Rattle.day.specs.Answer.{number, carried};
 ghost use Rattle.day.specs.Sound.{dayLimits, yard, sound};
 ghost use Rattle.decimal.specs.Place.{Put};
-ghost use Rattle.output.specs.Output.{answer, written, outAfter};
+ghost use Rattle.output.specs.Output.{answer, writes, leaves};
 ghost use Rattle.answering.specs.Answering.{refusalText, dayReply, answerText};
 use day::Day;
 use day::Refusal;
@@ -69,8 +70,8 @@ fn put_answer(text: &[u8], out: &mut [u8]) -> usize
 // Answers a text. The output is lent: its first bytes become the answer, the others stay; 10 where it is too short, and then no byte
 // changes.
 pub fn answer_text(text: &[u8], out: &mut [u8]) -> Wrote
-    ensures { λ r. ⌜ answer r ≡ written (answerText dayLimits (now (text .entry))) (length (now (out .entry))) ⌝ }
-    ensures { λ r. ⌜ now (out .exit) ≡ outAfter (written (answerText dayLimits (now (text .entry))) (length (now (out .entry)))) (answerText dayLimits (now (text .entry))) (now (out .entry)) ⌝ }
+    ensures { λ r. ⌜ answer r ≡ writes [] (answerText dayLimits (now (text .entry))) (length (now (out .entry))) ⌝ }
+    ensures { λ r. ⌜ now (out .exit) ≡ leaves [] (answerText dayLimits (now (text .entry))) (now (out .entry)) ⌝ }
     ensures { λ r. ⌜ length (answerText dayLimits (now (text .entry))) ≤ 124 ⌝ }
 {
     let mut reply = [0u8; 124];

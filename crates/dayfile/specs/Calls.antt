@@ -11,10 +11,10 @@ use lib.ListN.{length, take, drop, replicate}
 use lib.Seq.{take-append-seam}
 use Rattle.fold.specs.Test.{is-true, both}
 use Rattle.model.specs.Model.{Yard}
-use Rattle.day.specs.Answer.{Answer, gives, refuses, must, checked}
+use Rattle.day.specs.Answer.{Answer, gives, refuses, Check, must}
 use Rattle.day.specs.Sound.{sound}
 use Rattle.day.specs.declared.Limits.{Limits}
-use Rattle.output.specs.Output.{written, outAfter}
+use Rattle.output.specs.Output.{writes, leaves}
 use Rattle.output.specs.Laws.{fits}
 use Rattle.dayfile.specs.Reading.{readDay}
 use Rattle.dayfile.specs.Writing.{dayText}
@@ -41,32 +41,24 @@ abbrev pub dayOrZero : Limits → Answer Yard → Yard
 dayOrZero l (gives y) = y
 dayOrZero l (refuses k carried) = zeroDay l
 
--- ---- writing: checks 8, then 10; the count of bytes written, and the output afterwards
+-- ---- writing: check 8, then the text of the day is written into the output (`writes` and `leaves`)
 
-unfoldable pub writeAnswer : Limits → Yard → ℕ → Answer ℕ
-writeAnswer l y size = checked (must (sound l y) 8 (0 ∷ []) ∷ []) (written (dayText y) size)
-
-unfoldable pub writeAfter : Limits → Yard → List ℕ → List ℕ
-writeAfter l y out = outAfter (writeAnswer l y (length out)) (dayText y) out
+abbrev pub dayChecks : Limits → Yard → List Check
+dayChecks l y = must (sound l y) 8 (0 ∷ []) ∷ []
 
 -- ---- the round trips
 
 module _ (l : Limits) (short : Short l) where
-  day-written : (y : Yard) (out : List ℕ) → T (sound l y) → length (dayText y) ≤ length out
-      → (writeAnswer l y (length out) ≡ gives (length (dayText y))) × (take (length (dayText y)) (writeAfter l y out) ≡ dayText y)
-  unfolding writeAnswer writeAfter
-  day-written y out s h = rw (is-true (sound l y) s) (fits (dayText y) out h)
-
   -- what writing leaves in a long enough output, read, gives the day
   pub written-reads : (y : Yard) (out : List ℕ) → T (sound l y) → length (dayText y) ≤ length out
-      → (k : ℕ) × (writeAnswer l y (length out) ≡ gives k) × (readDay l (take k (writeAfter l y out)) ≡ gives y)
-  written-reads y out s h = let (a, t) = day-written y out s h in (length (dayText y), a, ap (readDay l) t ∙ write-read l y short s)
+      → (k : ℕ) × (writes (dayChecks l y) (dayText y) (length out) ≡ gives k) × (readDay l (take k (leaves (dayChecks l y) (dayText y) out)) ≡ gives y)
+  written-reads y out s h = let (a, t) = fits (dayText y) out (dayChecks l y) (s, tt) h in (length (dayText y), a, ap (readDay l) t ∙ write-read l y short s)
 
   -- what reading accepts, written into a long enough output, gives the same bytes
   pub read-writes : (text : List ℕ) (y : Yard) (out : List ℕ) → readDay l text ≡ gives y → length text ≤ length out
-      → (writeAnswer l y (length out) ≡ gives (length text)) × (take (length text) (writeAfter l y out) ≡ text)
+      → (writes (dayChecks l y) (dayText y) (length out) ≡ gives (length text)) × (take (length text) (leaves (dayChecks l y) (dayText y) out) ≡ text)
   read-writes text y out r h =
       let e : text ≡ dayText y = read-write l text y r in
       let s = read-sound l text y r in
-      let (a, t) = day-written y out s (omega (arith, ap length e)) in
+      let (a, t) = fits (dayText y) out (dayChecks l y) (s, tt) (omega (arith, ap length e)) in
       rw e (a, t)

@@ -1,7 +1,6 @@
--- The laws that the proofs of writing cite: the text of a day in its sections, and each answer from what the code has found.
+-- The laws that the proofs of writing cite: the rows of boxes, and the text of a day in its sections.
 -- Assumes nothing.
 use mathlib.Core.Path.{_≡_, ap, _∙_}
-use mathlib.Core.Bool.{true, false}
 use mathlib.Core.List.{List, [], _∷_, _++_, append-assoc, append-nil}
 use mathlib.Core.Logic.{⊎-elim}
 use Prim.Native.Nat.{ℕ, _+_, _*_, _/_, _%_, _<_}
@@ -10,16 +9,12 @@ use native.Mathlib.Omega.{arith}
 use lib.ListN.{length, getD, length-append}
 use borrow.Author.Tests.{eq-eqb, ne-eqb}
 use Rattle.model.specs.Model.{Yard}
-use Rattle.day.specs.Answer.{Answer, refuses}
-use Rattle.day.specs.Sound.{headRow, sound}
-use Rattle.day.specs.declared.Limits.{Limits}
+use Rattle.day.specs.Sound.{headRow}
 use Rattle.decimal.specs.Place.{Put}
 use Rattle.decimal.specs.PlaceLaws.{put-text}
 use Rattle.lines.specs.Lines.{rowText, rowsText}
-use Rattle.output.specs.Output.{written, outAfter}
 use Rattle.output.specs.Laws.{rows-listed, rows-joined}
 use Rattle.dayfile.specs.Writing.{fileText, moveRow, moveRows, fileOf, dayText}
-use Rattle.dayfile.specs.Calls.{writeAnswer, writeAfter}
 use Rattle.daywrite.specs.Writes.{headText, trainsText, moveText, movesText}
 
 -- ---- the row of a place of the table
@@ -57,15 +52,3 @@ put-sections y a b c = rw (day-text y) (put-text (put-text a b) c)
 
 pub day-length : (y : Yard) → length (dayText y) ≡ length (headText (headRow y)) + length (trainsText (y .numbers) (y .first) (y .last) (y .trains)) + length (movesText (y .numbers) (y .width) (y .boxes))
 day-length y = ap length (day-text y) ∙ simp length-append
-
--- ---- each answer and what it leaves, from what the code has found
-
-module _ (l : Limits) (y : Yard) (out : List ℕ) where
-  pub says-unsound : sound l y ≡ false → (refuses 8 (0 ∷ []) ≡ writeAnswer l y (length out)) × (out ≡ writeAfter l y out)
-  unfolding writeAnswer writeAfter
-  says-unsound s = (simp s, simp s)
-
-  pub says-text : {text after : List ℕ} {said : Answer ℕ} → sound l y ≡ true → text ≡ dayText y → said ≡ written text (length out)
-      → after ≡ outAfter (written text (length out)) text out → (said ≡ writeAnswer l y (length out)) × (after ≡ writeAfter l y out)
-  unfolding writeAnswer writeAfter
-  says-text s t a e = (a ∙ rw (t, s), e ∙ rw (t, s))

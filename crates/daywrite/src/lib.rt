@@ -1,8 +1,8 @@
 // Writing a day as a day file (document 01): checks 8, then 10; fills the first bytes of the output, returns their count and leaves
 // the bytes beyond. A refusal changes no byte.
 //
-// Proved: for every record and every output `write_day` answers `writeAnswer` and leaves `writeAfter` of dayfile's Calls.antt. The
-// functions below it that put rows take slices and a width, so that records of other sizes use them too. Assumes nothing.
+// Proved: for every record and every output `write_day` answers and leaves what `writes` and `leaves` of output's Output.antt say of the
+// day's check and text. The functions below it that put rows take slices and a width, so that records of other sizes use them too. Assumes nothing.
 ghost use mathlib.Core.Path.{_≡_};
 ghost use mathlib.Core.List.{[], _∷_};
 ghost use Prim.Native.Nat.{_+_, _≤_, _<_, _*_};
@@ -10,8 +10,8 @@ ghost use lib.ListN.{length};
 ghost use Rattle.day.specs.Sound.{dayLimits, yard};
 ghost use Rattle.decimal.specs.Place.{Put};
 ghost use Rattle.dayfile.specs.Writing.{dayText};
-ghost use Rattle.dayfile.specs.Calls.{writeAnswer, writeAfter};
-ghost use Rattle.output.specs.Output.{answer};
+ghost use Rattle.dayfile.specs.Calls.{dayChecks};
+ghost use Rattle.output.specs.Output.{answer, writes, leaves};
 ghost use Rattle.daywrite.specs.Writes.{headText, trainsText, moveText, movesText};
 use day::Day;
 use day::Refusal;
@@ -112,8 +112,8 @@ fn put_day(day: Day, out: &mut [u8]) -> usize
 // Writes a day. The output is lent: its first bytes become the day file, the others stay; a refusal changes none. So the text is put
 // into a buffer first, which holds that of every sound day (dayfile's Size.antt), and its length is known before the output changes.
 pub fn write_day(day: Day, out: &mut [u8]) -> Wrote
-    ensures { λ r. ⌜ answer r ≡ writeAnswer dayLimits (yard day) (length (now (out .entry))) ⌝ }
-    ensures { λ r. ⌜ now (out .exit) ≡ writeAfter dayLimits (yard day) (now (out .entry)) ⌝ }
+    ensures { λ r. ⌜ answer r ≡ writes (dayChecks dayLimits (yard day)) (dayText (yard day)) (length (now (out .entry))) ⌝ }
+    ensures { λ r. ⌜ now (out .exit) ≡ leaves (dayChecks dayLimits (yard day)) (dayText (yard day)) (now (out .entry)) ⌝ }
 {
     if !day::is_sound(day) {
         return Wrote::Refused(Refusal::Unsound);

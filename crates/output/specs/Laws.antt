@@ -12,13 +12,13 @@ use lib.ListN.{length, getD, set, take, drop, length-append}
 use lib.Seq.{sets-eq, take-suc, take-length, take-append-seam}
 use borrow.Author.Tests.{le-leb, lt-leb}
 use Rattle.fold.specs.Listed.{listed, joined, joined-none, joined-next, joined-cons, joined-front}
-use Rattle.day.specs.Answer.{gives, refuses, must}
-use Rattle.day.specs.AnswerLaws.{checked-gives}
+use Rattle.day.specs.Answer.{Answer, gives, refuses, Check, must, checked}
+use Rattle.day.specs.AnswerLaws.{AllHold, checked-holds, checked-gives, checked-refuses}
 use Rattle.decimal.specs.Decimal.{digits}
 use Rattle.decimal.specs.Place.{Put}
 use Rattle.decimal.specs.PlaceLaws.{put-text, put-byte}
 use Rattle.lines.specs.Lines.{fieldText, rowText, rowsText}
-use Rattle.output.specs.Output.{written, outAfter}
+use Rattle.output.specs.Output.{writes, leaves}
 
 -- ---- bytes stored one after the other
 
@@ -92,28 +92,46 @@ module _ {l m : List ℕ} {j : ℕ} {a : List ℕ} (p : Put l m 0 j a) where
   pub put-front : length a ≤ length l → take j m ≡ a
   put-front h = rw (put-count, front h) (take-append-seam a (drop (length a) l))
 
--- ---- a whole text: the answer and what is left, by whether it fits
+-- ---- a whole text: the answer and what is left, by the checks and by whether it fits
 
 module _ (text out : List ℕ) where
-  pub says-short : length out < length text
-      → (refuses 10 (0 ∷ []) ≡ written text (length out)) × (out ≡ outAfter (written text (length out)) text out)
-  unfolding written
+  pub says-short : length out < length text → (refuses 10 (0 ∷ []) ≡ writes [] text (length out)) × (out ≡ leaves [] text out)
+  unfolding writes leaves
   says-short h = let e = lt-leb (length text) (length out) h in (simp e, simp e)
 
-  pub says-written : {after : List ℕ} {next : ℕ} → length text ≤ length out → Put out after 0 next text
-      → (gives (length text) ≡ written text (length out)) × (after ≡ outAfter (written text (length out)) text out)
-  unfolding written
-  says-written h p = let e = le-leb (length text) (length out) h in (simp e, front p h ∙ simp e)
+  pub says-whole : {after : List ℕ} {next : ℕ} → length text ≤ length out → Put out after 0 next text
+      → (gives (length text) ≡ writes [] text (length out)) × (after ≡ leaves [] text out)
+  unfolding writes leaves
+  says-whole h p = let e = le-leb (length text) (length out) h in (simp e, front p h ∙ simp e)
 
-  -- in an output that is long enough it stands in the first bytes
-  pub fits : length text ≤ length out → (written text (length out) ≡ gives (length text)) × (take (length text) (outAfter (written text (length out)) text out) ≡ text)
-  unfolding written
-  fits h = let e = le-leb (length text) (length out) h in (simp e, simp e (take-append-seam text (drop (length text) out)))
+  module _ (checks : List Check) where
+    -- a check that fails, whatever would be given
+    pub says-refused : {X : Type 0} (x : X) {k : ℕ} {carries : List ℕ} → checked checks (gives x) ≡ refuses k carries
+        → (refuses k carries ≡ writes checks text (length out)) × (out ≡ leaves checks text out)
+    unfolding writes leaves
+    says-refused x e = let q = checked-refuses checks x (writes [] text (length out)) e in (sym q, rw q)
+
+    module _ (hold : AllHold checks) where
+      passed : writes checks text (length out) ≡ writes [] text (length out)
+      unfolding writes
+      passed = checked-holds checks (writes [] text (length out)) hold
+
+      pub says-text : {put after : List ℕ} {said : Answer ℕ} → put ≡ text → said ≡ writes [] put (length out) → after ≡ leaves [] put out
+          → (said ≡ writes checks text (length out)) × (after ≡ leaves checks text out)
+      unfolding leaves
+      says-text t a f = (a ∙ rw (t, passed), f ∙ rw (t, passed))
+
+      -- in an output that is long enough the text stands in the first bytes
+      pub fits : length text ≤ length out → (writes checks text (length out) ≡ gives (length text)) × (take (length text) (leaves checks text out) ≡ text)
+      unfolding writes leaves
+      fits h = rw passed (let e = le-leb (length text) (length out) h in (simp e, simp e (take-append-seam text (drop (length text) out))))
 
 -- the count of bytes is no more than the output has
-pub count-fits : (text : List ℕ) (size k : ℕ) → gives k ≡ written text size → k ≤ size
-unfolding written
-count-fits text size k e =
-    let (h, q) = checked-gives (must (leb (length text) size) 10 (0 ∷ []) ∷ []) (gives (length text)) k (sym e) in
+pub count-fits : (checks : List Check) (text : List ℕ) (size k : ℕ) → gives k ≡ writes checks text size → k ≤ size
+unfolding writes
+count-fits checks text size k e =
+    let room = must (leb (length text) size) 10 (0 ∷ []) ∷ [] in
+    let q = checked-gives checks (checked room (gives (length text))) k (sym e) .1 in
+    let (h, r) = checked-gives room (gives (length text)) k q in
     let same : length text ≡ k = cc in
     omega (arith, same, leb→le (length text) size (h .0))

@@ -5,7 +5,7 @@ use mathlib.Core.List.{List, [], _∷_, _++_}
 use Prim.Native.Nat.{ℕ}
 use lib.Dec.{leb}
 use lib.ListN.{length, drop}
-use Rattle.day.specs.Answer.{Answer, gives, refuses, refusal, must, checked}
+use Rattle.day.specs.Answer.{Answer, gives, refuses, refusal, Check, must, checked}
 use Rattle.output.specs.declared.Wrote.{Wrote}
 use Rattle.output.specs.declared.Wrote.the-variants.{Bytes, Refused}
 
@@ -15,11 +15,15 @@ abbrev pub answer : Wrote → Answer ℕ
 answer (Bytes count) = gives count
 answer (Refused r) = refusal r
 
--- ---- a text and an output of a given size
+-- ---- a text and an output of a given size: a call's own checks come first, then 10
 
-unfoldable pub written : List ℕ → ℕ → Answer ℕ
-written text size = checked (must (leb (length text) size) 10 (0 ∷ []) ∷ []) (gives (length text))
+unfoldable pub writes : List Check → List ℕ → ℕ → Answer ℕ
+writes checks text size = checked checks (checked (must (leb (length text) size) 10 (0 ∷ []) ∷ []) (gives (length text)))
 
+-- the output afterwards
 abbrev pub outAfter : Answer ℕ → List ℕ → List ℕ → List ℕ
 outAfter (gives count) text out = text ++ drop (length text) out
 outAfter (refuses k carries) text out = out
+
+unfoldable pub leaves : List Check → List ℕ → List ℕ → List ℕ
+leaves checks text out = outAfter (writes checks text (length out)) text out

@@ -8,7 +8,7 @@ ghost use Prim.Native.Nat.{_+_, _≤_};
 ghost use lib.ListN.{length};
 ghost use Rattle.decimal.specs.Place.{Put};
 ghost use Rattle.lines.specs.Lines.{fieldText, rowText};
-ghost use Rattle.output.specs.Output.{answer, written, outAfter};
+ghost use Rattle.output.specs.Output.{answer, writes, leaves};
 use day::Refusal;
 
 // The count of bytes written, or the refusal.
@@ -78,8 +78,8 @@ pub fn put_five(out: &mut [u8], at: usize, a: u64, b: u64, c: u64, d: u64, e: u6
 
 // Writes a whole text to the front of the output, where it fits; the bytes beyond stay. Else 10, and no byte changes.
 pub fn write_text(text: &[u8], out: &mut [u8]) -> Wrote
-    ensures { λ r. ⌜ answer r ≡ written (now (text .entry)) (length (now (out .entry))) ⌝ }
-    ensures { λ r. ⌜ now (out .exit) ≡ outAfter (written (now (text .entry)) (length (now (out .entry)))) (now (text .entry)) (now (out .entry)) ⌝ }
+    ensures { λ r. ⌜ answer r ≡ writes [] (now (text .entry)) (length (now (out .entry))) ⌝ }
+    ensures { λ r. ⌜ now (out .exit) ≡ leaves [] (now (text .entry)) (now (out .entry)) ⌝ }
 {
     if out.len() < text.len() {
         return Wrote::Refused(Refusal::TooShort);

@@ -1,16 +1,11 @@
--- What a plan is written as (document 01, "The program"), and what the writing call answers and leaves: the checks 8, 11, 12, 13 of
--- valuing, then 10.
+-- What a plan is written as (document 01, "The program").
 -- Assumes nothing.
 use mathlib.Core.List.{List, [], _∷_, _++_}
 use Prim.Native.Nat.{ℕ}
-use lib.ListN.{length, getD}
+use lib.ListN.{getD}
 use Rattle.fold.specs.Listed.{listed}
 use Rattle.model.specs.Model.{Yard, Outcome, outcome, slotOf}
-use Rattle.day.specs.Answer.{Answer, checked}
-use Rattle.day.specs.declared.Limits.{Limits}
-use Rattle.valuing.specs.Valuing.{rowChecks}
 use Rattle.lines.specs.Lines.{ascii, rowText, rowsText}
-use Rattle.output.specs.Output.{written, outAfter}
 
 -- ---- the plan file: the row's three numbers, then train numbers in file order, each with its slot
 
@@ -32,11 +27,3 @@ planLines n numbers o row = valueNames ++ rowText (valueRow o) ++ slotNames ++ r
 
 abbrev pub planText : Yard → List ℕ → List ℕ
 planText y row = planLines (y .trains) (y .numbers) (outcome y row) row
-
--- ---- writing: the count of bytes, and the output afterwards
-
-unfoldable pub writeAnswer : Limits → Yard → List ℕ → ℕ → Answer ℕ
-writeAnswer l y row size = checked (rowChecks l y row) (written (planText y row) size)
-
-unfoldable pub writeAfter : Limits → Yard → List ℕ → List ℕ → List ℕ
-writeAfter l y row out = outAfter (writeAnswer l y row (length out)) (planText y row) out

@@ -1,4 +1,4 @@
--- `daywrite::write_day` meets its contract. Each return is one of the laws `says-..`; the text of a sound day fits the buffer.
+-- `daywrite::write_day` meets its contract. Each return is one of the laws `says-..` of output; the text of a sound day fits the buffer.
 -- Assumes nothing.
 use mathlib.Core.Path.{_≡_, sym, ap, _∙_}
 use mathlib.Core.Bool.{true}
@@ -9,10 +9,10 @@ use borrow.Author.Tests.{not-true, not-false}
 use Rattle.fold.specs.Test.{of-true}
 use Rattle.day.specs.Sound.{dayLimits, yard, sound}
 use Rattle.day.specs.SoundLaws.{sound-is}
+use Rattle.dayfile.specs.Calls.{dayChecks}
 use Rattle.dayfile.specs.Writing.{dayText}
 use Rattle.dayfile.specs.Size.{day-size, day-most}
-use Rattle.output.specs.Laws.{put-count, put-front}
-use Rattle.daywrite.specs.Laws.{says-unsound, says-text}
+use Rattle.output.specs.Laws.{put-count, put-front, says-refused, says-text}
 use borrow.Author.Needs.{needs}
 use Rattle.daywrite.proofs.write_day.Statement.{statement}
 use Rattle.daywrite.proofs.write_day.Tie as tie
@@ -38,7 +38,9 @@ is-sound-requires : tie.Need-is-sound-requires
 is-sound-requires c κs = search needs
 
 returns : tie.Need-returns
-returns c = says-unsound _ _ _ (sym (c .before .is-sound .ensures) ∙ not-true _ (c .if1 .taken))
+returns c =
+    let e = sym (c .before .is-sound .ensures) ∙ not-true _ (c .if1 .taken) in
+    says-refused _ _ (dayChecks dayLimits _) (tt {0}) (rw e)
 
 slice-aggregate-put-day : tie.Need-slice-aggregate-put-day
 slice-aggregate-put-day c = search needs
@@ -62,7 +64,7 @@ returns-2 : tie.Need-returns-2
 returns-2 c =
     let w = c .before .before in
     let p = w .before .before .before .before in
-    says-text _ _ _ (sound-day (p .before .before)) (front p) (w .write-text .ensures .0) (w .write-text .ensures .1)
+    says-text _ _ (dayChecks dayLimits _) (of-true (sound-day (p .before .before)), tt) (front p) (w .write-text .ensures .0) (w .write-text .ensures .1)
 
 pub write-day-spec : {M : Type 1} → statement M
 write-day-spec =

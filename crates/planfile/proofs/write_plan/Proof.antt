@@ -8,14 +8,14 @@ use lib.ListN.{length, take}
 use Rattle.model.specs.Model.{outcome, allowed}
 use Rattle.model.specs.Rows.{allowed-is}
 use Rattle.day.specs.Answer.{gives}
+use Rattle.day.specs.AnswerLaws.{AllHold, checked-gives}
 use Rattle.day.specs.Sound.{dayLimits, yard, sound}
 use Rattle.day.specs.SoundLaws.{sound-is}
-use Rattle.valuing.specs.Valuing.{outcomeOf, valued}
+use Rattle.valuing.specs.Valuing.{rowChecks, outcomeOf, valued}
 use Rattle.valuing.specs.Laws.{allowed-valued}
-use Rattle.output.specs.Laws.{put-count, put-front}
+use Rattle.output.specs.Laws.{put-count, put-front, says-refused, says-text}
 use Rattle.planfile.specs.PlanText.{planLines, planText}
 use Rattle.planfile.specs.Size.{plan-size, plan-most}
-use Rattle.planfile.specs.Laws.{says-refused, says-text}
 use borrow.Author.Needs.{needs}
 use Rattle.planfile.proofs.write_plan.Statement.{statement}
 use Rattle.planfile.proofs.write_plan.Tie as tie
@@ -24,6 +24,13 @@ use Rattle.planfile.proofs.write_plan.Tie as tie
 said : (c : tie.After-known-told2) → let a = c .before .before .before .before .before .before .args in
     gives (outcomeOf (c .before .value .given .0 .0)) ≡ valued dayLimits (yard (a .day)) (a .row .now)
 said c = rw (c .before .value .given .1) at (c .before .before .before .value-assignment .ensures)
+
+all-hold : (c : tie.After-known-told2) → let a = c .before .before .before .before .before .before .args in
+    AllHold (rowChecks dayLimits (yard (a .day)) (a .row .now))
+unfolding valued
+all-hold c =
+    let a = c .before .before .before .before .before .before .args in
+    checked-gives (rowChecks dayLimits (yard (a .day)) (a .row .now)) (gives (outcome (yard (a .day)) (a .row .now))) _ (sym (said c)) .0
 
 facts : (c : tie.After-known-told2) → let a = c .before .before .before .before .before .before .args in
     T (sound dayLimits (yard (a .day))) × T (allowed (yard (a .day)) (a .row .now)) × (outcome (yard (a .day)) (a .row .now) ≡ outcomeOf (c .before .value .given .0 .0))
@@ -81,7 +88,11 @@ write-text-requires : tie.Need-write-text-requires
 write-text-requires c κs = search needs
 
 returns : tie.Need-returns
-returns c = says-refused _ _ _ _ (rw (c .before .refusal .given .1) at (c .before .before .before .value-assignment .ensures))
+unfolding valued
+returns c =
+    let a = c .before .before .before .before .before .before .args in
+    says-refused _ _ (rowChecks dayLimits (yard (a .day)) (a .row .now)) (outcome (yard (a .day)) (a .row .now))
+    (sym (rw (c .before .refusal .given .1) at (c .before .before .before .value-assignment .ensures)))
 
 same-length : tie.Need-same-length
 same-length c = search needs
@@ -90,7 +101,8 @@ returns-2 : tie.Need-returns-2
 returns-2 c =
     let w = c .before .before in
     let p = w .before .before .before .before in
-    says-text _ _ _ _ (said (known p)) (front p) (w .write-text .ensures .0) (w .write-text .ensures .1)
+    let a = known p .before .before .before .before .before .before .args in
+    says-text _ _ (rowChecks dayLimits (yard (a .day)) (a .row .now)) (all-hold (known p)) (front p) (w .write-text .ensures .0) (w .write-text .ensures .1)
 
 pub write-plan-spec : {M : Type 1} → statement M
 write-plan-spec =

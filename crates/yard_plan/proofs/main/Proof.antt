@@ -14,7 +14,7 @@ use Rattle.yard_plan.proofs.main.Tie as tie
 short : (c : tie.After-known-told) → let a = c .before .before .before .before in c .before .count .given .0 .0 ≤ length (a .answer-text .last .1 .0)
 short c =
     let a = c .before .before .before .before in
-    omega (arith, count-fits _ _ _ (sym (ap answer (c .before .count .given .1)) ∙ a .answer-text .ensures .0), a .answer-text .kept .1 .0)
+    omega (arith, count-fits _ _ _ _ (sym (ap answer (c .before .count .given .1)) ∙ a .answer-text .ensures .0), a .answer-text .kept .1 .0)
 
 buffer-requires : tie.Need-buffer-requires
 buffer-requires c κs = search needs
