@@ -115,20 +115,20 @@ static void fill_price(uint32_t *price, const uint8_t *boxes, size_t n, size_t s
         price[s] = (uint32_t)__builtin_popcountll(s) <= tracks ? split * price[s] : BARRED;
 }
 
-static void fill_open(uint16_t *opens, const struct day *d)
+static void fill_open(uint64_t *opens, const struct day *d)
 {
     for (size_t j = 0; j < d->slots; j++) {
         opens[j] = 0;
         for (size_t i = 0; i < d->trains; i++)
             if (d->first[i] <= j + 1 && j + 1 <= d->last[i])
-                opens[j] |= (uint16_t)(1u << i);
+                opens[j] |= (uint64_t)1 << i;
     }
 }
 
 /* ---- the stages, as crates/solving */
 
 static void solve(uint64_t *cost, uint16_t *choice, const uint16_t *need, const uint32_t *late, const uint32_t *price,
-                  const uint16_t *opens, size_t slots, size_t size)
+                  const uint64_t *opens, size_t slots, size_t size)
 {
     for (size_t i = 0; i < size; i++)
         cost[i] = i == 0 ? 0 : NONE;
@@ -194,7 +194,7 @@ __attribute__((noinline)) static int plan(const struct day *d, uint64_t *cost, u
 {
     uint16_t need[SETS] = {0};
     uint32_t late[SETS] = {0}, price[SETS] = {0};
-    uint16_t opens[SLOTS] = {0};
+    uint64_t opens[SLOTS] = {0};
     size_t size;
     if (!is_sound(d) || is_overbooked(d))
         return 0;

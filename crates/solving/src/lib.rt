@@ -25,14 +25,14 @@ fn cheapest(
     need: &[u16],
     late: &[u32],
     price: &[u32],
-    opens: &[u16],
+    opens: &[usize],
     j: usize,
     r: usize,
 ) -> Pick
     requires { ⌜ Given (r + 1) (j + 1) (now need) (now late) (now price) (now opens) × Values (r + 1) (now cost) ⌝ }
     ensures { λ p. ⌜ (p .value ≡ cellFrom (now (need .entry)) (now (late .entry)) (now (price .entry)) (now (opens .entry)) (now (cost .entry)) j r .value) × (p .set ≡ cellFrom (now (need .entry)) (now (late .entry)) (now (price .entry)) (now (opens .entry)) (now (cost .entry)) j r .set) ⌝ }
 {
-    let ready = r & (opens[j] as usize);
+    let ready = r & opens[j];
     let mut least: u64 = staging::NONE;
     let mut chosen: u16 = 0;
     let mut s = ready;
@@ -78,7 +78,7 @@ pub fn solve(
     need: &[u16],
     late: &[u32],
     price: &[u32],
-    opens: &[u16],
+    opens: &[usize],
     slots: usize,
     size: usize,
 )

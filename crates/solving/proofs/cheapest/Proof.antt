@@ -73,9 +73,6 @@ mul-ready c = omega (arith, c .pre .0 .short)
 shared-slice-read-ready : tie.Need-shared-slice-read-ready Inv-loop μ-loop
 shared-slice-read-ready c = omega (arith, c .before .pre .0 .opened)
 
-cast-ready : tie.Need-cast-ready Inv-loop μ-loop
-cast-ready c = omega (arith, c .shared-slice-known .given (c .before .args .j))
-
 loop-holds : tie.Need-loop-holds Inv-loop μ-loop
 loop-holds c = (sub-refl _, tried-start _ _ _ _ _ _ _)
 
@@ -153,7 +150,6 @@ cheapest-spec =
     μ-loop
     mul-ready
     shared-slice-read-ready
-    cast-ready
     loop-holds
     mul-splits
     shared-slice-read-splits
