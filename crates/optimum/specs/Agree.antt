@@ -50,7 +50,7 @@ module _ (ok ok′ : Test) (w w′ : Contribution) (inf N m : ℕ)
       record {
         within = h .within;
         kept = h .kept;
-        table = λ i l. h .table i l ∙ tab-agree (m - 0) 1 i (omega arith) (omega arith) l;
+        table = record { holds = λ i l. h .table .holds i l ∙ tab-agree (m - 0) 1 i (omega arith) (omega arith) l };
         choices = record { kept = h .choices .kept; done = λ i p q. h .choices .done i p q ∙ word i q };
       }
     where

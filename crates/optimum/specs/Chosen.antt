@@ -82,7 +82,7 @@ module _ {ok : Test} {w : Contribution} {inf m N : ℕ} {a₀ c₀ a c : List �
 
   -- the value of all positions, as the code reads it
   pub solved-value : at a (N - 1) ≡ optimum ok w inf n m
-  solved-value = solved-table h (N - 1) (omega (arith, pow-pos n)) ∙ ap (λ x. tab ok w inf m 1 (x - 1)) size
+  solved-value = solved-table h .holds (N - 1) (omega (arith, pow-pos n)) ∙ ap (λ x. tab ok w inf m 1 (x - 1)) size
 
   module _ (some : optimum ok w inf n m < inf) where
     pub solved-leads : Leads c n m N (rowIn c n m N)

@@ -60,7 +60,17 @@ fn solve_day(day: Day, cost: &mut [u64], choice: &mut [u16], size: usize)
     tables::fill_late(&mut late, day.revisit, size);
     tables::fill_price(&mut price, &boxes, 12, n, size, day.tracks, day.split);
     tables::fill_open(&mut opens, &first, &last, n, slots);
-    solving::solve(cost, choice, &need, &late, &price, &opens, slots, size);
+    solving::solve(
+        cost,
+        choice,
+        &need,
+        &late,
+        &price,
+        &opens,
+        day.tracks,
+        slots,
+        size,
+    );
 }
 
 // Puts the best row of a sound day, which has an allowed one, into the first bytes of `row`.

@@ -9,6 +9,7 @@ use native.Mathlib.Omega.{arith}
 use native.Mathlib.Nat.{eq-zero-or-pos}
 use lib.Dec.{T, eqb}
 use lib.Arith.{bin-ind}
+use lib.Count.{ones, ones-step, ones-le}
 use lib.Bits.{bitAnd, bitOr, bitXor, and-step, and-zero-l, and-zero-r, and-le-l, and-le-r, and-comm, and-self, or-disjoint, xor-add-and}
 use Rattle.fold.specs.Test.{is-true, same-test, both, both-of}
 use Rattle.fold.specs.Counting.{le-or-lt}
@@ -94,6 +95,18 @@ rest-apart u =
 
 pub rest-or : (u r : ℕ) → Sub u r → bitOr (r - u) u ≡ r
 rest-or u r h = omega (arith, or-disjoint (r - u) u (rest-apart u r h), sub-le u r h)
+
+-- each position of r is in u or in what u leaves
+pub ones-rest : (u r : ℕ) → Sub u r → ones (r - u) + ones u ≡ ones r
+ones-rest u =
+    bin-ind (λ (n : ℕ). (r : ℕ) → Sub n r → ones (r - n) + ones n ≡ ones r)
+    (λ r h.
+    let whole : r - 0 ≡ r = omega arith in
+    omega (arith, ap ones whole, ones-le 0 0 (omega arith)))
+    (λ n ih r h.
+    let rest : ones ((r - n) / 2) ≡ ones (r / 2 - n / 2) = ap ones (half-rest n r h) in
+    omega (arith, rest, ih (r / 2) (sub-half n r h), ones-step (r - n), ones-step n, ones-step r, sub-low n r h, sub-le (n / 2) (r / 2) (sub-half n r h)))
+    u
 
 -- the code's `r ^ u`
 pub rest-xor : (u r : ℕ) → Sub u r → bitXor r u ≡ r - u

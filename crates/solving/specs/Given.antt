@@ -4,11 +4,12 @@
 use mathlib.Core.List.{List}
 use Prim.Native.Nat.{ℕ, suc, _*_, _≤_, _<_}
 use native.Mathlib.Omega.{arith}
+use lib.Count.{ones}
 use lib.ListN.{length}
 use Rattle.optimum.specs.Workspace.{at}
 use Rattle.optimum.specs.Least.{Cell}
-use Rattle.optimum.specs.Stages.{cell}
-use Rattle.staging.specs.Tables.{fromTables, costFromTables, noCost}
+use Rattle.optimum.specs.Stages.{cell, tab, choice}
+use Rattle.staging.specs.Tables.{barred, fromTables, costFromTables, noCost}
 
 -- the revisits of a set of 12 trains cost at most this, 12 * 65535
 abbrev pub mostLate : ℕ
@@ -33,9 +34,22 @@ pub record Values (size : ℕ) (cost : List ℕ) : Type 0 where
   pub long : size ≤ length cost
   pub low : (x : ℕ) → x < size → at cost x < noCost → at cost x ≤ 8 * most
 
+-- no set below `size` that is not barred has more trains than tracks
+pub record Room (size tracks : ℕ) (price : List ℕ) : Type 0 where
+  pub few : tracks ≤ 12
+  pub enough : (s : ℕ) → s < size → at price s < barred → ones s ≤ tracks
+
 -- the cell of stage j + 1, where r remains and `cost` holds the values of the next stage
 abbrev pub cellFrom : List ℕ → List ℕ → List ℕ → List ℕ → List ℕ → ℕ → ℕ → Cell
 cellFrom need late price opens cost j r = cell (fromTables price opens) (costFromTables need late price) noCost (at cost) (suc j) r
+
+-- the cell of stage j + 1, where r remains and no stage is left behind it
+abbrev pub lastFrom : List ℕ → List ℕ → List ℕ → List ℕ → ℕ → ℕ → Cell
+lastFrom need late price opens j r =
+    record {
+      value = tab (fromTables price opens) (costFromTables need late price) noCost 1 (suc j) r;
+      set = choice (fromTables price opens) (costFromTables need late price) noCost 1 (suc j) r;
+    }
 
 -- what is given for more sets and slots is given for fewer
 pub given-less : {size slots : ℕ} {need late price opens : List ℕ} (x j : ℕ) → Given size slots need late price opens → x ≤ size → j ≤ slots

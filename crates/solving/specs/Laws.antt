@@ -1,28 +1,35 @@
 -- The test and the contribution from the tables (staging's Tables.antt), as the loops use them: at stage j + 1 the test is that the price
--- is not barred and the set within the open set of index j; and a contribution is small.
+-- is not barred and the set within the open set of index j; a contribution is small; and the cells that need no walk.
 -- Assumes nothing.
 use mathlib.Core.Path.{_≡_, sym, ap, ap₂, _∙_, subst}
 use mathlib.Core.Bool.{_&&_}
 use mathlib.Core.List.{List}
 use Prim.Native.Nat.{ℕ, suc, _+_, _-_, _*_, _≤_, _<_}
+use native.Mathlib.Nat.{mul-comm, mul-le-mul}
 use native.Mathlib.Omega.{arith}
+use lib.Arith.{digits-lt}
 use lib.Bits.{bitAnd, and-le-l}
+use lib.Count.{ones}
 use lib.Dec.{T, ltb, ltb→lt, eqb→eq}
 use lib.ListN.{length}
 use borrow.Author.Tests.{lt-ltb, eq-eqb}
 use Rattle.fold.specs.Test.{both-of}
 use Rattle.sets.specs.Subset.{Sub, subset, sub-le}
 use Rattle.optimum.specs.Workspace.{at}
-use Rattle.optimum.specs.Stages.{tab, tab-small}
-use Rattle.optimum.specs.Layers.{Stage, stage-reads}
+use Rattle.optimum.specs.Stages.{tab, choice, tab-small}
+use Rattle.optimum.specs.Direct.{last-whole, crowded-none}
+use Rattle.optimum.specs.Layers.{Table}
 use Rattle.staging.specs.Tables.{barred, fromTables, costFromTables, noCost}
-use Rattle.solving.specs.Given.{mostLate, most, Given, Values}
+use Rattle.solving.specs.Given.{mostLate, most, Given, Values, Room, lastFrom}
 
 -- ---- the test
 
 module _ (price opens : List ℕ) (j r s : ℕ) where
   index : suc j - 1 ≡ j
   index = omega arith
+
+  pub test-reads : fromTables price opens (suc j) r s ≡ (ltb (at price s) barred && subset s (at opens j))
+  test-reads = ap (λ x. ltb (at price s) barred && subset s (at opens x)) index
 
   pub may-serve : at price s < barred → Sub s (at opens j) → T (fromTables price opens (suc j) r s)
   may-serve l h =
@@ -45,20 +52,42 @@ module _ {size slots : ℕ} {need late price opens : List ℕ} (g : Given size s
   pub cost-small : (t r s : ℕ) → s < size → T (fromTables price opens t r s) → costFromTables need late price t r s ≤ most
   cost-small t r s l h = omega (arith, late-small s (at need (r - s)) l, serve-priced price opens t r s h)
 
-  -- what a turn of stage j + 1 reads is the next stage's table, of at most 7 stages
-  pub stage-values : {j x : ℕ} {a₀ c₀ a c : List ℕ} (y : ℕ) → Stage (fromTables price opens) (costFromTables need late price) noCost size slots j x a₀ c₀ a c
-      → j < slots → size ≤ length a → y ≤ x → Values y a
-  stage-values {j} {x} {a = a} y h l n k =
+  -- the next stage's table, of at most 7 stages, is what a cell of stage j + 1 may read
+  pub table-values : {j x : ℕ} {a : List ℕ} (y : ℕ) → Table (fromTables price opens) (costFromTables need late price) noCost x (slots - suc j) (suc (suc j)) a
+      → j < slots → x ≤ size → size ≤ length a → y ≤ x → Values y a
+  table-values {j} {x} {a} y h l n b k =
       record {
-        long = omega (arith, h .within);
+        long = omega arith;
         low = λ i q v.
             let ok = fromTables price opens in
             let w = costFromTables need late price in
-            let in-size : i < size = omega (arith, h .within) in
-            let e : at a i ≡ tab ok w noCost (slots - suc j) (suc (suc j)) i = stage-reads h i (omega arith) in
+            let e : at a i ≡ tab ok w noCost (slots - suc j) (suc (suc j)) i = h .holds i (omega arith) in
             let b : tab ok w noCost (slots - suc j) (suc (suc j)) i ≤ (slots - suc j) * most =
             tab-small ok w noCost (suc (suc slots)) i most (λ t r s d b hs m. cost-small t r s (omega (arith, sub-le s r hs)) m) (slots - suc j) (suc (suc j)) i
             (omega arith) (omega arith) (omega arith) in
             let eight : slots ≤ 8 = g .short in
             omega arith;
       }
+
+  -- the word of a cell's choice
+  pub choice-place : (j r : ℕ) → j < slots → r < size → (j * size + r < slots * size) × (slots * size ≤ 32768)
+  choice-place j r a b = (digits-lt a b, mul-le-mul (g .short) (g .few))
+
+  -- ---- cells that are known without a walk
+
+  -- the whole of r in the last slot, which leaves nothing
+  pub whole-cell : (j r : ℕ) → r < size → T (fromTables price opens (suc j) r r)
+      → (at late (bitAnd r (at need 0)) + at price r ≡ lastFrom need late price opens j r .value) × (r ≡ lastFrom need late price opens j r .set)
+  whole-cell j r l may =
+      let nothing : 0 ≡ r - r = omega arith in
+      let (v, s) = last-whole (fromTables price opens) (costFromTables need late price) noCost (suc j) r may (omega (arith, cost-small (suc j) r r l may)) in
+      (ap (λ x. at late (bitAnd r (at need x)) + at price r) nothing ∙ v, s)
+
+  -- a set of more trains than the slots left have tracks for
+  pub crowded-cell : {tracks : ℕ} (k t r : ℕ) → Room size tracks price → r < size → tracks * k < ones r
+      → (noCost ≡ tab (fromTables price opens) (costFromTables need late price) noCost k t r)
+      × (0 ≡ choice (fromTables price opens) (costFromTables need late price) noCost k t r)
+  crowded-cell {tracks} k t r room l c =
+      crowded-none (fromTables price opens) (costFromTables need late price) noCost r tracks
+      (λ t q s b hs may. room .enough s (omega (arith, sub-le s q hs)) (serve-priced price opens t q s may)) k t r (omega arith)
+      (omega (arith, mul-comm tracks k))

@@ -4,12 +4,12 @@
 // Proved: `solve` leaves the table of the first slot and the choices of all slots, as optimum's `Solved` says; `trace` writes the row
 // that the choices give. Over slices, for up to 12 trains and 8 slots. Assumes nothing.
 ghost use mathlib.Core.Path.{_≡_};
-ghost use Prim.Native.Nat.{_+_, _*_, _^_, _≤_};
+ghost use Prim.Native.Nat.{_+_, _-_, _*_, _^_, _≤_, _<_};
 ghost use lib.ListN.{length, take, drop};
-ghost use Rattle.optimum.specs.Layers.{Ground, Solved};
+ghost use Rattle.optimum.specs.Layers.{Solved};
 ghost use Rattle.optimum.specs.Chosen.{rowIn, Leads};
 ghost use Rattle.staging.specs.Tables.{fromTables, costFromTables, noCost};
-ghost use Rattle.solving.specs.Given.{Given, Values, cellFrom};
+ghost use Rattle.solving.specs.Given.{Given, Values, Room, cellFrom, lastFrom};
 
 // A cell of the table: the least value, and the set that is served for it.
 struct Pick {
@@ -59,20 +59,26 @@ fn cheapest(
     }
 }
 
-// The values where no slot is left: 0 if nothing remains, none otherwise.
-fn ground(cost: &mut [u64], size: usize)
-    requires { ⌜ size ≤ length (now cost) ⌝ }
-    ensures { λ _. ⌜ Ground noCost size size (now (cost .entry)) (now (cost .exit)) ⌝ }
+// The cell of the last slot, j + 1, where r remains: nothing may be left, so all of r is served, or nothing can be.
+fn whole(need: &[u16], late: &[u32], price: &[u32], opens: &[usize], j: usize, r: usize) -> Pick
+    requires { ⌜ Given (r + 1) (j + 1) (now need) (now late) (now price) (now opens) ⌝ }
+    ensures { λ p. ⌜ (p .value ≡ lastFrom (now (need .entry)) (now (late .entry)) (now (price .entry)) (now (opens .entry)) j r .value) × (p .set ≡ lastFrom (now (need .entry)) (now (late .entry)) (now (price .entry)) (now (opens .entry)) j r .set) ⌝ }
 {
-    for i in 0..size {
-        cost[i] = if i == 0 { 0 } else { staging::NONE };
+    let splits = price[r];
+    if (splits < staging::BARRED) & (r & opens[j] == r) {
+        return Pick {
+            value: (late[r & (need[0] as usize)] as u64) + (splits as u64),
+            set: r as u16,
+        };
+    }
+    Pick {
+        value: staging::NONE,
+        set: 0,
     }
 }
 
-// The table of the first slot in the first `size` words of `cost`, and the choices of all slots in the first `slots * size` of `choice`.
-// Slot by slot from the last, set by set from the largest: a cell reads values of sets no larger than its own, which are still the next
-// slot's. The words behind stay as they were.
-pub fn solve(
+// The table and the choices of the last slot: one set for each that remains.
+fn fill_last(
     cost: &mut [u64],
     choice: &mut [u16],
     need: &[u16],
@@ -82,20 +88,85 @@ pub fn solve(
     slots: usize,
     size: usize,
 )
-    requires { ⌜ Given size slots (now need) (now late) (now price) (now opens) × (size ≤ length (now cost)) × (slots * size ≤ length (now choice)) ⌝ }
+    requires { ⌜ Given size slots (now need) (now late) (now price) (now opens) × (0 < slots) × (size ≤ length (now cost)) × (slots * size ≤ length (now choice)) ⌝ }
+    ensures { λ _. ⌜ Solved (fromTables (now (price .entry)) (now (opens .entry))) (costFromTables (now (need .entry)) (now (late .entry)) (now (price .entry))) noCost size slots (slots - 1) (now (cost .entry)) (now (choice .entry)) (now (cost .exit)) (now (choice .exit)) ⌝ }
+{
+    let j = slots - 1;
+    let mut r = size;
+    while 0 < r {
+        r -= 1;
+        let p = whole(need, late, price, opens, j, r);
+        cost[r] = p.value;
+        choice[j * size + r] = p.set;
+    }
+}
+
+// The table of slot j + 1 from that of the next slot, and its choices, set by set from the largest: a cell reads values of sets no larger
+// than its own, which are still the next slot's. A set of more trains than the slots left have tracks for cannot be served: no walk.
+fn fill_slot(
+    cost: &mut [u64],
+    choice: &mut [u16],
+    need: &[u16],
+    late: &[u32],
+    price: &[u32],
+    opens: &[usize],
+    tracks: u32,
+    j: usize,
+    slots: usize,
+    size: usize,
+)
+    requires { ⌜ Given size slots (now need) (now late) (now price) (now opens) × Room size tracks (now price) × (j < slots) × (size ≤ length (now cost)) × (slots * size ≤ length (now choice)) × Solved (fromTables (now price) (now opens)) (costFromTables (now need) (now late) (now price)) noCost size slots (j + 1) (now cost) (now choice) (now cost) (now choice) ⌝ }
+    ensures { λ _. ⌜ Solved (fromTables (now (price .entry)) (now (opens .entry))) (costFromTables (now (need .entry)) (now (late .entry)) (now (price .entry))) noCost size slots j (now (cost .entry)) (now (choice .entry)) (now (cost .exit)) (now (choice .exit)) ⌝ }
+{
+    let room = tracks * ((slots - j) as u32);
+    let mut r = size;
+    while 0 < r {
+        r -= 1;
+        let p = if room < usize::count_ones(r) {
+            Pick {
+                value: staging::NONE,
+                set: 0,
+            }
+        } else {
+            cheapest(cost, need, late, price, opens, j, r)
+        };
+        cost[r] = p.value;
+        choice[j * size + r] = p.set;
+    }
+}
+
+// The table of the first slot in the first `size` words of `cost`, and the choices of all slots in the first `slots * size` of `choice`,
+// slot by slot from the last. The words behind stay as they were.
+pub fn solve(
+    cost: &mut [u64],
+    choice: &mut [u16],
+    need: &[u16],
+    late: &[u32],
+    price: &[u32],
+    opens: &[usize],
+    tracks: u32,
+    slots: usize,
+    size: usize,
+)
+    requires { ⌜ Given size slots (now need) (now late) (now price) (now opens) × Room size tracks (now price) × (0 < slots) × (size ≤ length (now cost)) × (slots * size ≤ length (now choice)) ⌝ }
     ensures { λ _. ⌜ Solved (fromTables (now (price .entry)) (now (opens .entry))) (costFromTables (now (need .entry)) (now (late .entry)) (now (price .entry))) noCost size slots 0 (now (cost .entry)) (now (choice .entry)) (now (cost .exit)) (now (choice .exit)) ⌝ }
 {
-    ground(cost, size);
-    let mut j = slots;
+    fill_last(cost, choice, need, late, price, opens, slots, size);
+    let mut j = slots - 1;
     while 0 < j {
         j -= 1;
-        let mut r = size;
-        while 0 < r {
-            r -= 1;
-            let p = cheapest(cost, need, late, price, opens, j, r);
-            cost[r] = p.value;
-            choice[j * size + r] = p.set;
-        }
+        fill_slot(
+            cost,
+            choice,
+            need,
+            late,
+            price,
+            opens,
+            tracks,
+            j,
+            slots,
+            size,
+        );
     }
 }
 

@@ -1,7 +1,7 @@
 -- Staged choices that read the filled tables are the day's: test and contribution agree for the sets and slots of the day, so what the
 -- loops have solved over the tables they have solved over the model (`solved-day`).
 -- Assumes nothing.
-use mathlib.Core.Path.{_≡_, refl, ap, ap₂, _∙_}
+use mathlib.Core.Path.{_≡_, refl, sym, ap, ap₂, _∙_}
 use mathlib.Core.Bool.{Bool, true, false, cond, _&&_, and-comm}
 use mathlib.Core.List.{List}
 use Prim.Native.Nat.{ℕ, zero, suc, _+_, _-_, _*_, _^_, _≤_, _<_}
@@ -42,6 +42,10 @@ module _ {y : Yard} {need late price opens : List ℕ} (h : DayTables y need lat
       at : (b : Bool) → leb (ones s) (y .tracks) ≡ b → ltb (getD price s 0) barred ≡ b
       at true e = lt-ltb (getD price s 0) barred (omega (arith, priced s l e, h .under s l (leb-true (ones s) (y .tracks) e)))
       at false e = le-ltb (getD price s 0) barred (omega (arith, roomless s l e))
+
+  -- no set that is not barred has more trains than tracks
+  pub room-enough : (s : ℕ) → s < 2 ^ y .trains → getD price s 0 < barred → ones s ≤ y .tracks
+  room-enough s l m = leb-true (ones s) (y .tracks) (sym (has-room s l) ∙ lt-ltb (getD price s 0) barred m)
 
   pub test-agrees : (t r s : ℕ) → 1 ≤ t → t ≤ y .slots → r < 2 ^ y .trains → Sub s r → fromTables price opens t r s ≡ servable y t r s
   test-agrees zero r s a b l hs = absurd (omega arith)

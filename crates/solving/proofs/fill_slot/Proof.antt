@@ -1,0 +1,161 @@
+-- `solving::fill_slot` meets its contract. The loop's invariant: optimum's `Stage`, set by set from the largest, and below the sets that are
+-- done the next slot's table, which the cells read.
+-- Assumes nothing.
+use Prim.Native.Nat.{_+_, _-_, _*_, _≤_, _<_, suc}
+use mathlib.Core.Path.{_≡_, ap, _∙_}
+use mathlib.Core.Logic.{⊎-elim}
+use native.Mathlib.Nat.{mul-le-mul}
+use native.Mathlib.Omega.{arith}
+use lib.ListN.{length}
+use Rattle.optimum.specs.Stages.{tab, choice}
+use Rattle.optimum.specs.Layers.{Table, Stage, table-cell, table-put, stage-start, stage-next, stage-end, solved-reads}
+use Rattle.staging.specs.Tables.{fromTables, costFromTables, noCost}
+use Rattle.solving.specs.Given.{given-less}
+use Rattle.solving.specs.Laws.{table-values, choice-place, crowded-cell}
+use Rattle.solving.proofs.fill_slot.Statement.{statement}
+use Rattle.solving.proofs.fill_slot.Tie as tie
+
+abbrev Inv-loop : tie.InvT-loop
+Inv-loop cost₀ choice₀ need late price opens tracks j slots size room r₀ cost choice r =
+    Stage (fromTables price opens) (costFromTables need late price) noCost size slots j r cost₀ choice₀ cost choice
+    × Table (fromTables price opens) (costFromTables need late price) noCost r (slots - suc j) (suc (suc j)) cost
+
+abbrev μ-loop : tie.MeasureT-loop
+μ-loop cost₀ choice₀ need late price opens tracks j slots size room r₀ cost choice r = r
+
+abbrev from : tie.At-loop Inv-loop μ-loop → tie.Start Inv-loop μ-loop
+from c = c .before .before .before .before .before .before .before
+
+-- inside the loop: the workspaces are still as long, and the word that is written is one of theirs
+module _ (c : tie.In-loop Inv-loop μ-loop) where
+  set : c .before .loop .r - 1 < from (c .before) .args .size
+  set = omega (arith, c .before .loop .inv .0 .within)
+
+  costs : from (c .before) .args .size ≤ length (c .before .loop .cost)
+  costs = omega (arith, c .before .loop .inv .0 .kept .long, from (c .before) .pre .3)
+
+  choices : from (c .before) .args .slots * from (c .before) .args .size ≤ length (c .before .loop .choice)
+  choices = omega (arith, c .before .loop .inv .0 .choices .kept .long, from (c .before) .pre .4)
+
+  place : (from (c .before) .args .j * from (c .before) .args .size + (c .before .loop .r - 1) < from (c .before) .args .slots * from (c .before) .args .size)
+      × (from (c .before) .args .slots * from (c .before) .args .size ≤ 32768)
+  place = choice-place (from (c .before) .pre .0) (from (c .before) .args .j) (c .before .loop .r - 1) (from (c .before) .pre .2) set
+
+-- a slot's tracks times the slots left
+rooms : (s : tie.Start Inv-loop μ-loop) → s .args .tracks * (s .args .slots - s .args .j) ≤ 96
+rooms s =
+    let left : s .args .slots - s .args .j ≤ 8 = omega (arith, s .pre .0 .short) in
+    mul-le-mul (s .pre .1 .few) left
+
+-- what is written: none where r has more trains than there is room for, else what the walk finds
+found : (c : tie.Joined1 Inv-loop μ-loop)
+    → let z = from (c .before .before) .args in
+    let r = c .before .before .loop .r - 1 in
+    (c .if1 .p .value ≡ tab (fromTables (z .price .now) (z .opens .now)) (costFromTables (z .need .now) (z .late .now) (z .price .now)) noCost (z .slots - z .j) (suc (z .j)) r)
+    × (c .if1 .p .set ≡ choice (fromTables (z .price .now) (z .opens .now)) (costFromTables (z .need .now) (z .late .now) (z .price .now)) noCost (z .slots - z .j) (suc (z .j)) r)
+found c =
+    let s = from (c .before .before) in
+    let z = s .args in
+    let r = c .before .before .loop .r - 1 in
+    let ok = fromTables (z .price .now) (z .opens .now) in
+    let w = costFromTables (z .need .now) (z .late .now) (z .price .now) in
+    let left : suc (z .slots - suc (z .j)) ≡ z .slots - z .j = omega (arith, s .pre .2) in
+    let (v, u) = table-cell r (c .before .before .loop .inv .1) (omega arith) in
+    ⊎-elim
+    (λ x.
+    let (none, empty) = crowded-cell (s .pre .0) (z .slots - z .j) (suc (z .j)) r (s .pre .1) (set (c .before)) (x .0 .taken) in
+    (ap (λ p. p .value) (x .1) ∙ none, ap (λ p. p .set) (x .1) ∙ empty))
+    (λ x. (
+      ap (λ p. p .value) (x .3) ∙ x .2 .ensures .0 ∙ v ∙ ap (λ k. tab ok w noCost k (suc (z .j)) r) left,
+      ap (λ p. p .set) (x .3) ∙ x .2 .ensures .1 ∙ u ∙ ap (λ k. choice ok w noCost k (suc (z .j)) r) left,
+    ))
+    (c .if1 .came)
+
+sub-room : tie.Need-sub-room Inv-loop μ-loop
+sub-room c = omega (arith, c .before .before .before .before .before .before .pre .2)
+
+cast-room : tie.Need-cast-room Inv-loop μ-loop
+cast-room c = omega (arith, c .before .before .before .before .before .before .pre .0 .short)
+
+mul-room : tie.Need-mul-room Inv-loop μ-loop
+mul-room c = omega (arith, rooms (c .before .before .before .before .before .before))
+
+loop-holds : tie.Need-loop-holds Inv-loop μ-loop
+loop-holds c =
+    let s = c .before .before .before .before .before .before in
+    (stage-start _ (s .pre .5) (omega arith), solved-reads _ (s .pre .5) (omega arith))
+
+sub-r : tie.Need-sub-r Inv-loop μ-loop
+sub-r c = omega arith
+
+cheapest-requires : tie.Need-cheapest-requires Inv-loop μ-loop
+cheapest-requires c κs =
+    let o = c .before .before in
+    let g = from (o .before) .pre .0 in
+    let r = set o in
+    let j = from (o .before) .pre .2 in (
+      given-less _ _ g (omega arith) (omega arith),
+      table-values g _ (o .before .loop .inv .1) j (o .before .loop .inv .0 .within) (costs o) (omega arith),
+    )
+
+mul-cost : tie.Need-mul-cost Inv-loop μ-loop
+mul-cost c = omega (arith, set (c .before), from (c .before .before) .pre .0 .few)
+
+slice-write-cost : tie.Need-slice-write-cost Inv-loop μ-loop
+slice-write-cost c = omega (arith, set (c .before), costs (c .before))
+
+mul-choice : tie.Need-mul-choice Inv-loop μ-loop
+mul-choice c = omega (arith, place (c .before))
+
+add-choice : tie.Need-add-choice Inv-loop μ-loop
+add-choice c = omega (arith, place (c .before))
+
+mul-choice-2 : tie.Need-mul-choice-2 Inv-loop μ-loop
+mul-choice-2 c = omega (arith, place (c .before))
+
+slice-write-choice : tie.Need-slice-write-choice Inv-loop μ-loop
+slice-write-choice c = omega (arith, place (c .before), choices (c .before))
+
+loop-less : tie.Need-loop-less Inv-loop μ-loop
+loop-less c = omega arith
+
+loop-again : tie.Need-loop-again Inv-loop μ-loop
+loop-again c =
+    let o = c .before in
+    let inv = o .before .loop .inv in (
+      stage-next _ _ _ (inv .0) (omega arith) (from (o .before) .pre .2) (costs o) (choices o) (found c),
+      table-put _ _ (inv .1) (omega arith),
+    )
+
+same-length : tie.Need-same-length Inv-loop μ-loop
+same-length c = c .before .loop .inv .0 .kept .long
+
+same-length-2 : tie.Need-same-length-2 Inv-loop μ-loop
+same-length-2 c = c .before .loop .inv .0 .choices .kept .long
+
+returns : tie.Need-returns Inv-loop μ-loop
+returns c = stage-end (c .before .loop .inv .0) (omega arith) (from (c .before) .pre .2)
+
+pub fill-slot-spec : {M : Type 1} → statement M
+fill-slot-spec =
+    tie.close
+    (tie.spec
+    Inv-loop
+    μ-loop
+    sub-room
+    cast-room
+    mul-room
+    loop-holds
+    sub-r
+    cheapest-requires
+    mul-cost
+    slice-write-cost
+    mul-choice
+    add-choice
+    mul-choice-2
+    slice-write-choice
+    loop-less
+    loop-again
+    same-length
+    same-length-2
+    returns)
