@@ -5,7 +5,7 @@
 use mathlib.Core.Path.{_≡_, refl, sym, ap, _∙_}
 use mathlib.Core.Logic.{⊎-elim}
 use mathlib.Core.List.{List, [], _∷_}
-use Prim.Native.Nat.{ℕ, zero, suc, _+_, _-_, _*_, _≤_, _<_}
+use Prim.Native.Nat.{ℕ, zero, suc, _-_, _*_, _≤_, _<_, min}
 use native.Mathlib.Omega.{arith}
 use native.Mathlib.Nat.{eq-or-lt-of-le, le-antisymm}
 use lib.Count.{ones, ones-le}
@@ -13,7 +13,6 @@ use lib.Dec.{T}
 use lib.ListN.{length}
 use Rattle.fold.specs.Counting.{le-or-lt}
 use Rattle.sets.specs.Subset.{Sub, sub-le, sub-refl, ones-rest}
-use Rattle.optimum.specs.Least.{Least}
 use Rattle.optimum.specs.Offers.{offer-yes, offer-no}
 use Rattle.optimum.specs.Schedules.{Test, Contribution, Schedule}
 use Rattle.optimum.specs.Stages.{candidate, tab, choice, cell-found, tab-least, tab-done, tab-over, tab-capped, follow, follow-length, follow-schedule}
@@ -29,6 +28,10 @@ module _ (ok : Test) (w : Contribution) (inf : ℕ) where
     part-none : (u : ℕ) → u < r → offers u ≡ inf
     unfolding offers
     part-none u l = offer-no inf (ok t r u) (tab ok w inf 0 (suc t) (r - u)) (w t r u) (λ m. omega (arith, tab-over ok w inf (suc t) (r - u) (omega arith)))
+
+    -- so no choice offers less than r does, or they offer inf
+    whole-least : (u : ℕ) → Sub u r → min (offers r) inf ≤ offers u
+    whole-least u hu = ⊎-elim (λ (e : u ≡ r). omega (arith, ap offers e)) (λ (m : u < r). omega (arith, part-none u m)) (eq-or-lt-of-le (sub-le u r hu))
 
     -- r leaves nothing
     whole-offers : T (ok t r r) → w t r r < inf → offers r ≡ w t r r
@@ -48,8 +51,7 @@ module _ (ok : Test) (w : Contribution) (inf : ℕ) where
           within = λ q. sub-refl r;
           tried = λ q. omega arith;
           reached = λ q. whole;
-          least = λ u hu k.
-              ⊎-elim (λ (e : u ≡ r). omega (arith, ap offers e)) (λ (m : u < r). omega (arith, part-none u m)) (eq-or-lt-of-le (sub-le u r hu));
+          least = λ u hu k. omega (arith, whole, whole-least u hu);
           largest = λ u hu k e q. sub-le u r hu;
         })
 
@@ -64,8 +66,7 @@ module _ (ok : Test) (w : Contribution) (inf : ℕ) where
           within = λ q. absurd (omega arith);
           tried = λ q. absurd (omega arith);
           reached = λ q. absurd (omega arith);
-          least = λ u hu k.
-              ⊎-elim (λ (e : u ≡ r). omega (arith, ap offers e)) (λ (m : u < r). omega (arith, part-none u m)) (eq-or-lt-of-le (sub-le u r hu));
+          least = λ u hu k. omega (arith, whole, whole-least u hu);
           largest = λ u hu k e q. absurd (omega arith);
         })
 

@@ -2,10 +2,12 @@
 -- of costs fits 64 bits and stays below `noCost`. And the cell that one of them finds.
 -- Assumes nothing.
 use mathlib.Core.List.{List}
-use Prim.Native.Nat.{ℕ, suc, _*_, _≤_, _<_}
+use Prim.Native.Nat.{ℕ, suc, _-_, _*_, _≤_, _<_}
 use native.Mathlib.Omega.{arith}
 use lib.Count.{ones}
+use lib.Dec.{T}
 use lib.ListN.{length}
+use Rattle.sets.specs.Subset.{Sub}
 use Rattle.optimum.specs.Workspace.{at}
 use Rattle.optimum.specs.Least.{Cell}
 use Rattle.optimum.specs.Stages.{cell, tab, choice}
@@ -21,18 +23,18 @@ most = 4295753714
 
 -- tables for the sets below `size` and for the first `slots` slots
 pub record Given (size slots : ℕ) (need late price opens : List ℕ) : Type 0 where
-  pub few : size ≤ 4096
-  pub short : slots ≤ 8
+  pub sets : (0 < size) × (size ≤ 4096)
+  pub stages : (0 < slots) × (slots ≤ 8)
   pub needs : size ≤ length need
   pub lates : size ≤ length late
   pub prices : size ≤ length price
   pub opened : slots ≤ length opens
   pub small : (x : ℕ) → x < size → at late x ≤ mostLate
 
--- values of the sets below `size`: none, or what at most 8 slots come to
-pub record Values (size : ℕ) (cost : List ℕ) : Type 0 where
-  pub long : size ≤ length cost
-  pub low : (x : ℕ) → x < size → at cost x < noCost → at cost x ≤ 8 * most
+-- values that a cell of slot j + 1 reads where r remains: of what its choices leave, none, or what at most 8 slots come to
+pub record Rests (price opens cost : List ℕ) (j r : ℕ) : Type 0 where
+  pub long : r < length cost
+  pub low : (s : ℕ) → Sub s r → T (fromTables price opens (suc j) r s) → at cost (r - s) < noCost → at cost (r - s) ≤ 8 * most
 
 -- no set below `size` that is not barred has more trains than tracks
 pub record Room (size tracks : ℕ) (price : List ℕ) : Type 0 where
@@ -52,12 +54,12 @@ lastFrom need late price opens j r =
     }
 
 -- what is given for more sets and slots is given for fewer
-pub given-less : {size slots : ℕ} {need late price opens : List ℕ} (x j : ℕ) → Given size slots need late price opens → x ≤ size → j ≤ slots
+pub given-less : {size slots : ℕ} {need late price opens : List ℕ} (x j : ℕ) → Given size slots need late price opens → (0 < x) × (x ≤ size) → (0 < j) × (j ≤ slots)
     → Given x j need late price opens
 given-less x j g a b =
     record {
-      few = omega (arith, g .few);
-      short = omega (arith, g .short);
+      sets = (a .0, omega (arith, g .sets));
+      stages = (b .0, omega (arith, g .stages));
       needs = omega (arith, g .needs);
       lates = omega (arith, g .lates);
       prices = omega (arith, g .prices);

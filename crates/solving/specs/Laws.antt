@@ -20,7 +20,8 @@ use Rattle.optimum.specs.Stages.{tab, choice, tab-small}
 use Rattle.optimum.specs.Direct.{last-whole, crowded-none}
 use Rattle.optimum.specs.Layers.{Table}
 use Rattle.staging.specs.Tables.{barred, fromTables, costFromTables, noCost}
-use Rattle.solving.specs.Given.{mostLate, most, Given, Values, Room, lastFrom}
+use Rattle.staging.specs.Reachable.{Reachable, reachable-next}
+use Rattle.solving.specs.Given.{mostLate, most, Given, Rests, Room, lastFrom}
 
 -- ---- the test
 
@@ -52,26 +53,34 @@ module _ {size slots : ℕ} {need late price opens : List ℕ} (g : Given size s
   pub cost-small : (t r s : ℕ) → s < size → T (fromTables price opens t r s) → costFromTables need late price t r s ≤ most
   cost-small t r s l h = omega (arith, late-small s (at need (r - s)) l, serve-priced price opens t r s h)
 
-  -- the next stage's table, of at most 7 stages, is what a cell of stage j + 1 may read
-  pub table-values : {j x : ℕ} {a : List ℕ} (y : ℕ) → Table (fromTables price opens) (costFromTables need late price) noCost x (slots - suc j) (suc (suc j)) a
-      → j < slots → x ≤ size → size ≤ length a → y ≤ x → Values y a
-  table-values {j} {x} {a} y h l n b k =
+  -- where no set that may be served has more trains than tracks, a choice from what can remain leaves what can remain
+  pub leaves-reachable : {tracks j r : ℕ} (s : ℕ) → Room size tracks price → r < size → Reachable size tracks j r → Sub s r
+      → T (fromTables price opens (suc j) r s) → Reachable size tracks (suc j) (r - s)
+  leaves-reachable {j = j} {r} s room l h hs may =
+      reachable-next s h hs (room .enough s (omega (arith, sub-le s r hs)) (serve-priced price opens (suc j) r s may))
+
+  -- the next slot's table, of at most 7 slots, is what a cell reads
+  pub table-rests : {tracks j x r : ℕ} {a : List ℕ}
+      → Table (fromTables price opens) (costFromTables need late price) noCost (Reachable size tracks) x (slots - suc j) (suc j) a
+      → Room size tracks price → Reachable size tracks j r → j < slots → r < x → x ≤ size → size ≤ length a → Rests price opens a j r
+  table-rests {tracks} {j} {x} {r} {a} h room here l q n b =
       record {
         long = omega arith;
-        low = λ i q v.
+        low = λ s hs may v.
             let ok = fromTables price opens in
             let w = costFromTables need late price in
-            let e : at a i ≡ tab ok w noCost (slots - suc j) (suc (suc j)) i = h .holds i (omega arith) in
+            let i : ℕ = r - s in
+            let e : at a i ≡ tab ok w noCost (slots - suc j) (suc (suc j)) i = h .holds i (omega arith) (leaves-reachable s room (omega arith) here hs may) in
             let b : tab ok w noCost (slots - suc j) (suc (suc j)) i ≤ (slots - suc j) * most =
             tab-small ok w noCost (suc (suc slots)) i most (λ t r s d b hs m. cost-small t r s (omega (arith, sub-le s r hs)) m) (slots - suc j) (suc (suc j)) i
             (omega arith) (omega arith) (omega arith) in
-            let eight : slots ≤ 8 = g .short in
+            let eight : slots ≤ 8 = g .stages .1 in
             omega arith;
       }
 
   -- the word of a cell's choice
   pub choice-place : (j r : ℕ) → j < slots → r < size → (j * size + r < slots * size) × (slots * size ≤ 32768)
-  choice-place j r a b = (digits-lt a b, mul-le-mul (g .short) (g .few))
+  choice-place j r a b = (digits-lt a b, mul-le-mul (g .stages .1) (g .sets .1))
 
   -- ---- cells that are known without a walk
 

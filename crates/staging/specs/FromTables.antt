@@ -66,9 +66,9 @@ module _ {y : Yard} {need late price opens : List ℕ} (h : DayTables y need lat
       (ap (λ x. getD late (bitAnd s x) 0) (h .needs (r - s) (omega arith)) ∙ h .lates (bitAnd s later) (omega (arith, and-le-l s later)))
       (priced s within room)
 
-  pub solved-day : {inf N : ℕ} {a₀ c₀ a c : List ℕ} → N ≡ 2 ^ y .trains
-      → Solved (fromTables price opens) (costFromTables need late price) inf N (y .slots) 0 a₀ c₀ a c
-      → Solved (servable y) (slotCost y) inf N (y .slots) 0 a₀ c₀ a c
+  pub solved-day : {inf N : ℕ} {wanted : ℕ → ℕ → Type 0} {a₀ c₀ a c : List ℕ} → N ≡ 2 ^ y .trains
+      → Solved (fromTables price opens) (costFromTables need late price) inf wanted N (y .slots) 0 a₀ c₀ a c
+      → Solved (servable y) (slotCost y) inf wanted N (y .slots) 0 a₀ c₀ a c
   solved-day {inf} {N} e =
       solved-agree (fromTables price opens) (servable y) (costFromTables need late price) (slotCost y) inf N (y .slots)
       (λ t r s a b l. test-agrees t r s a b (omega arith)) (λ t r s a b l. cost-agrees t r s a b (omega arith))

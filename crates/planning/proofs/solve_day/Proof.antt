@@ -5,6 +5,7 @@ use Prim.Native.Nat.{ℕ, _^_, _≤_, _<_}
 use native.Mathlib.Nat.{pow-le-pow-right}
 use native.Mathlib.Omega.{arith}
 use lib.Dec.{lit≤}
+use lib.Pow.{pow-pos}
 use Rattle.day.specs.Sound.{dayLimits, yard}
 use Rattle.day.specs.SoundLaws.{Sound, sound-is}
 use Rattle.staging.specs.FromTables.{DayTables, room-enough, solved-day}
@@ -103,8 +104,8 @@ solve-requires c κs =
     let long : (k : ℕ) → k ≡ 4096 → s .args .size ≤ k = λ k e. omega (arith, small s) in
     let slots : s .args .day .slots ≤ 8 = least s .slots .1 in (
       record {
-        few = small s;
-        short = slots;
+        sets = (omega (arith, pow-pos (s .args .day .trains), s .pre .1 .0), small s);
+        stages = least s .slots;
         needs = long _ (f .before .before .before .before .before .before .before .before .before .before .before .before .fill-needing .kept .0);
         lates = long _ (f .before .before .before .before .before .before .before .before .before .fill-late .kept .0);
         prices = long _ (f .before .before .before .before .before .fill-price .kept .0);
@@ -112,7 +113,6 @@ solve-requires c κs =
         small = f .before .before .before .before .before .before .before .before .before .fill-late .ensures .1;
       },
       record { few = least s .tracks .1; enough = λ m h. room-enough (tables f) m (omega (arith, s .pre .1 .0)) },
-      least s .slots .0,
       s .pre .1 .1 .0,
       s .pre .1 .1 .1,
     )

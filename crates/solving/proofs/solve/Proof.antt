@@ -1,17 +1,17 @@
--- `solving::solve` meets its contract. The invariant: optimum's `Solved`, slot by slot from the last.
+-- `solving::solve` meets its contract. The invariant: optimum's `Solved` for what can remain, slot by slot from the last.
 -- Assumes nothing.
-use Prim.Native.Nat.{_+_, _-_, _*_, _≤_, _<_}
 use mathlib.Core.Path.{_≡_, refl, _∙_}
 use native.Mathlib.Omega.{arith}
 use lib.ListN.{length}
-use Rattle.optimum.specs.Layers.{Solved, solved-here, solved-then}
+use Rattle.optimum.specs.Layers.{Solved, solved-here, solved-then, solved-some}
 use Rattle.staging.specs.Tables.{fromTables, costFromTables, noCost}
+use Rattle.staging.specs.Reachable.{Reachable}
 use Rattle.solving.proofs.solve.Statement.{statement}
 use Rattle.solving.proofs.solve.Tie as tie
 
 abbrev Inv-loop : tie.InvT-loop
 Inv-loop cost₀ choice₀ need late price opens tracks slots size j₀ cost choice j =
-    Solved (fromTables price opens) (costFromTables need late price) noCost size slots j cost₀ choice₀ cost choice
+    Solved (fromTables price opens) (costFromTables need late price) noCost (Reachable size tracks) size slots j cost₀ choice₀ cost choice
 
 abbrev μ-loop : tie.MeasureT-loop
 μ-loop cost₀ choice₀ need late price opens tracks slots size j₀ cost choice j = j
@@ -32,13 +32,13 @@ module _ (c : tie.At-loop Inv-loop μ-loop) where
   choices = c .loop .inv .choices .kept .long ∙ filled c .fill-last .ensures .choices .kept .long
 
 fill-last-requires : tie.Need-fill-last-requires Inv-loop μ-loop
-fill-last-requires c κs = let s = c .before .before .before .before .before .before .before .before in (s .pre .0, s .pre .2, s .pre .3, s .pre .4)
+fill-last-requires c κs = let s = c .before .before .before .before .before .before .before .before in (s .pre .0, s .pre .2, s .pre .3)
 
 sub-j : tie.Need-sub-j Inv-loop μ-loop
-sub-j c = omega (arith, c .before .before .before .before .before .before .before .before .before .before .before .before .before .pre .2)
+sub-j c = omega (arith, c .before .before .before .before .before .before .before .before .before .before .before .before .before .pre .0 .stages)
 
 loop-holds : tie.Need-loop-holds Inv-loop μ-loop
-loop-holds c = solved-here _ (c .before .before .before .before .fill-last .ensures) refl
+loop-holds c = solved-here _ (solved-some (c .before .before .before .before .fill-last .ensures)) refl
 
 sub-j-2 : tie.Need-sub-j-2 Inv-loop μ-loop
 sub-j-2 c = omega arith
@@ -46,8 +46,15 @@ sub-j-2 c = omega arith
 fill-slot-requires : tie.Need-fill-slot-requires Inv-loop μ-loop
 fill-slot-requires c κs =
     let a = c .before .before .before in
-    let s = from a in
-    (s .pre .0, s .pre .1, omega (arith, a .loop .inv .within), omega (arith, costs a, s .pre .3), omega (arith, choices a, s .pre .4), solved-here _ (a .loop .inv) (omega arith))
+    let s = from a in (
+      s .pre .0,
+      s .pre .1,
+      omega arith,
+      omega (arith, a .loop .inv .within),
+      omega (arith, costs a, s .pre .2),
+      omega (arith, choices a, s .pre .3),
+      solved-here _ (a .loop .inv) (omega arith),
+    )
 
 loop-less : tie.Need-loop-less Inv-loop μ-loop
 loop-less c = omega arith
@@ -55,14 +62,31 @@ loop-less c = omega arith
 loop-again : tie.Need-loop-again Inv-loop μ-loop
 loop-again c = solved-then _ (c .before .before .before .before .before .before .before .before .loop .inv) (c .before .before .before .before .fill-slot .ensures) refl
 
+fill-first-requires : tie.Need-fill-first-requires Inv-loop μ-loop
+fill-first-requires c κs =
+    let a = c .before .before .before .before in
+    let s = from a in
+    (s .pre .0, s .pre .1, omega (arith, costs a, s .pre .2), omega (arith, choices a, s .pre .3), solved-here _ (a .loop .inv) (omega arith))
+
 same-length : tie.Need-same-length Inv-loop μ-loop
-same-length c = costs (c .before)
+same-length c = c .before .before .before .before .fill-first .ensures .kept .long ∙ costs (c .before .before .before .before .before .before .before .before .before)
 
 same-length-2 : tie.Need-same-length-2 Inv-loop μ-loop
-same-length-2 c = choices (c .before)
+same-length-2 c = c .before .before .before .before .fill-first .ensures .choices .kept .long ∙ choices (c .before .before .before .before .before .before .before .before .before)
 
 returns : tie.Need-returns Inv-loop μ-loop
-returns c = solved-then 0 (filled (c .before) .fill-last .ensures) (c .before .loop .inv) (omega arith)
+returns c =
+    let a = c .before .before .before .before .before .before .before .before .before in
+    solved-then 0 (solved-some (filled a .fill-last .ensures)) (solved-then 0 (a .loop .inv) (c .before .before .before .before .fill-first .ensures) refl) refl
+
+same-length-3 : tie.Need-same-length-3 Inv-loop μ-loop
+same-length-3 c = costs (c .before .before)
+
+same-length-4 : tie.Need-same-length-4 Inv-loop μ-loop
+same-length-4 c = choices (c .before .before)
+
+returns-2 : tie.Need-returns-2 Inv-loop μ-loop
+returns-2 c = solved-then 0 (solved-some (filled (c .before .before) .fill-last .ensures)) (c .before .before .loop .inv) (omega arith)
 
 pub solve-spec : {M : Type 1} → statement M
 solve-spec =
@@ -77,6 +101,10 @@ solve-spec =
     fill-slot-requires
     loop-less
     loop-again
+    fill-first-requires
     same-length
     same-length-2
-    returns)
+    returns
+    same-length-3
+    same-length-4
+    returns-2)

@@ -1,7 +1,7 @@
 -- `solving::whole` meets its contract. The code's test is that of the tables, so r is the only set that the last slot can serve, or none is.
 -- Assumes nothing.
-use Prim.Native.Nat.{ℕ, suc, _-_, _≤_, _<_}
-use mathlib.Core.Path.{_≡_, refl, sym, ap, ap₂, _∙_, subst}
+use Prim.Native.Nat.{ℕ, suc}
+use mathlib.Core.Path.{_∙_, subst}
 use native.Mathlib.Omega.{arith}
 use borrow.Author.Needs.{needs}
 use lib.Bits.{bitAnd, and-le-l}
@@ -9,7 +9,7 @@ use lib.Dec.{T}
 use Rattle.fold.specs.Test.{of-true}
 use Rattle.optimum.specs.Workspace.{at}
 use Rattle.optimum.specs.Direct.{last-none}
-use Rattle.staging.specs.Tables.{barred, fromTables, costFromTables, noCost}
+use Rattle.staging.specs.Tables.{fromTables, costFromTables, noCost}
 use Rattle.solving.specs.Laws.{test-reads, late-small, whole-cell}
 use Rattle.solving.proofs.whole.Statement.{statement}
 use Rattle.solving.proofs.whole.Tie as tie
@@ -46,7 +46,7 @@ cast-t19 : tie.Need-cast-t19
 cast-t19 c = omega (arith, c .shared-slice-known3 .given 0)
 
 mul-t21 : tie.Need-mul-t21
-mul-t21 c = omega (arith, and-le-l (c .before .before .before .before .args .r) (at (c .before .before .before .before .args .need .now) 0), c .before .before .before .before .pre .few)
+mul-t21 c = omega (arith, and-le-l (c .before .before .before .before .args .r) (at (c .before .before .before .before .args .need .now) 0), c .before .before .before .before .pre .sets .1)
 
 shared-slice-read-t23 : tie.Need-shared-slice-read-t23
 shared-slice-read-t23 c = omega (arith, and-le-l (c .before .before .before .before .before .args .r) (at (c .before .before .before .before .before .args .need .now) 0), c .before .before .before .before .before .pre .lates)
