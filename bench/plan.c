@@ -195,7 +195,7 @@ static void fill_last(uint64_t *cost, uint16_t *choice, const uint16_t *need, co
 }
 
 static void fill_slot(uint64_t *cost, uint16_t *choice, const uint16_t *need, const uint32_t *late, const uint32_t *price,
-                      const uint64_t *opens, uint32_t tracks, size_t j, size_t slots, size_t size)
+                      const uint64_t *opens, uint32_t tracks, size_t later, size_t j, size_t slots, size_t size)
 {
     uint32_t room = tracks * (uint32_t)(slots - j);
     uint32_t gone = tracks * (uint32_t)j;
@@ -204,7 +204,7 @@ static void fill_slot(uint64_t *cost, uint16_t *choice, const uint16_t *need, co
         uint32_t trains = (uint32_t)__builtin_popcountll(r);
         if (all <= trains + gone) {
             struct pick p = {NONE, 0};
-            if (trains <= room)
+            if (trains <= room && (r & later) == r)
                 p = cheapest(cost, need, late, price, opens, j, r);
             cost[r] = p.value;
             choice[j * size + r] = p.set;
@@ -225,10 +225,12 @@ static void solve(uint64_t *cost, uint16_t *choice, const uint16_t *need, const 
                   const uint64_t *opens, uint32_t tracks, size_t slots, size_t size)
 {
     size_t j = slots - 1;
+    size_t later = opens[j];
     fill_last(cost, choice, need, late, price, opens, slots, size);
     while (1 < j) {
         j--;
-        fill_slot(cost, choice, need, late, price, opens, tracks, j, slots, size);
+        later |= opens[j];
+        fill_slot(cost, choice, need, late, price, opens, tracks, later, j, slots, size);
     }
     if (0 < j)
         fill_first(cost, choice, need, late, price, opens, size);

@@ -1,18 +1,19 @@
 -- Cells that are known without trying the subsets. At the last stage only the whole of what remains can be chosen, since nothing may be
--- left: its cell is that choice (`last-whole`) or none (`last-none`). And where no choice has more than g positions, a set of more than g
--- for each stage that is left has no schedule (`crowded-none`).
+-- left: its cell is that choice (`last-whole`) or none (`last-none`). Where no choice has more than g positions, a set of more than g for
+-- each stage that is left has no schedule (`crowded-none`); nor has a set with a position that no choice of these stages has
+-- (`outside-none`).
 -- Assumes nothing.
-use mathlib.Core.Path.{_≡_, refl, sym, ap, _∙_}
+use mathlib.Core.Path.{_≡_, refl, sym, ap, _∙_, subst}
 use mathlib.Core.Logic.{⊎-elim}
 use mathlib.Core.List.{List, [], _∷_}
-use Prim.Native.Nat.{ℕ, zero, suc, _-_, _*_, _≤_, _<_, min}
+use Prim.Native.Nat.{ℕ, zero, suc, _+_, _-_, _*_, _≤_, _<_, min}
 use native.Mathlib.Omega.{arith}
 use native.Mathlib.Nat.{eq-or-lt-of-le, le-antisymm}
 use lib.Count.{ones, ones-le}
 use lib.Dec.{T}
 use lib.ListN.{length}
 use Rattle.fold.specs.Counting.{le-or-lt}
-use Rattle.sets.specs.Subset.{Sub, sub-le, sub-refl, ones-rest}
+use Rattle.sets.specs.Subset.{Sub, sub-le, sub-refl, sub-zero, sub-parts, ones-rest}
 use Rattle.optimum.specs.Offers.{offer-yes, offer-no}
 use Rattle.optimum.specs.Schedules.{Test, Contribution, Schedule}
 use Rattle.optimum.specs.Stages.{candidate, tab, choice, cell-found, tab-least, tab-done, tab-over, tab-capped, follow, follow-length, follow-schedule}
@@ -70,7 +71,18 @@ module _ (ok : Test) (w : Contribution) (inf : ℕ) where
           largest = λ u hu k e q. absurd (omega arith);
         })
 
-  -- ---- more positions than the stages left can take
+  -- ---- what no schedule uses up
+
+  no-schedule : (k t r : ℕ) → ((p : List ℕ) → length p ≡ k → Schedule ok t r p → ⊥) → inf ≡ tab ok w inf k t r
+  no-schedule k t r none =
+      ⊎-elim (λ (m : inf ≤ tab ok w inf k t r). le-antisymm m (tab-capped ok w inf k t r))
+      (λ (m : tab ok w inf k t r < inf). absurd (none (follow ok w inf k t r) (follow-length ok w inf k t r) (follow-schedule ok w inf k t r m)))
+      (le-or-lt inf (tab ok w inf k t r))
+
+  none-cell : (k t r : ℕ) → ((p : List ℕ) → length p ≡ k → Schedule ok t r p → ⊥) → (inf ≡ tab ok w inf k t r) × (0 ≡ choice ok w inf k t r)
+  unfolding choice
+  none-cell zero t r none = (no-schedule 0 t r none, refl)
+  none-cell (suc k) t r none = let e = no-schedule (suc k) t r none in (e, sym (tab-least ok w inf k t r .nothing (sym e)))
 
   -- no choice from a set up to `cap` has more than g positions
   module _ (cap g : ℕ) (few : (t r s : ℕ) → r ≤ cap → Sub s r → T (ok t r s) → ones s ≤ g) where
@@ -79,19 +91,15 @@ module _ (ok : Test) (w : Contribution) (inf : ℕ) where
     schedule-ones t r (s ∷ p) c h =
         omega (arith, schedule-ones (suc t) (r - s) p (omega arith) (h .2), few t r s c (h .0) (h .1), ones-rest s r (h .0))
 
-    crowded-tab : (k t r : ℕ) → r ≤ cap → k * g < ones r → inf ≡ tab ok w inf k t r
-    crowded-tab k t r c l =
-        ⊎-elim (λ (m : inf ≤ tab ok w inf k t r). le-antisymm m (tab-capped ok w inf k t r))
-        (λ (m : tab ok w inf k t r < inf).
-        absurd
-        (omega (
-          arith,
-          schedule-ones t r (follow ok w inf k t r) c (follow-schedule ok w inf k t r m),
-          ap (λ n. n * g) (follow-length ok w inf k t r),
-        )))
-        (le-or-lt inf (tab ok w inf k t r))
-
     pub crowded-none : (k t r : ℕ) → r ≤ cap → k * g < ones r → (inf ≡ tab ok w inf k t r) × (0 ≡ choice ok w inf k t r)
-    unfolding choice
-    crowded-none zero t r c l = (crowded-tab 0 t r c l, refl)
-    crowded-none (suc k) t r c l = let e = crowded-tab (suc k) t r c l in (e, sym (tab-least ok w inf k t r .nothing (sym e)))
+    crowded-none k t r c l = none-cell k t r (λ p n h. omega (arith, schedule-ones t r p c h, ap (λ x. x * g) n))
+
+  -- no choice of the stages from `first` on, below `top`, has a position outside u
+  module _ (first top u : ℕ) (inside : (t r s : ℕ) → first ≤ t → t < top → T (ok t r s) → Sub s u) where
+    schedule-inside : (t r : ℕ) (p : List ℕ) → first ≤ t → t + length p ≤ top → Schedule ok t r p → Sub r u
+    schedule-inside t r [] a b h = subst (λ x. Sub x u) (sym h) (sub-zero u)
+    schedule-inside t r (s ∷ p) a b h =
+        sub-parts s r u (h .0) (inside t r s a (omega arith) (h .1)) (schedule-inside (suc t) (r - s) p (omega arith) (omega arith) (h .2))
+
+    pub outside-none : (k t r : ℕ) → first ≤ t → t + k ≤ top → (Sub r u → ⊥) → (inf ≡ tab ok w inf k t r) × (0 ≡ choice ok w inf k t r)
+    outside-none k t r a b not = none-cell k t r (λ p n h. not (schedule-inside t r p a (omega arith) h))

@@ -41,6 +41,10 @@ pub record Room (size tracks : ℕ) (price : List ℕ) : Type 0 where
   pub few : tracks ≤ 12
   pub enough : (s : ℕ) → s < size → at price s < barred → ones s ≤ tracks
 
+-- every train that may still be served in slot j + 1 or later is in `later`
+pub record Later (slots j later : ℕ) (opens : List ℕ) : Type 0 where
+  pub holds : (i : ℕ) → j ≤ i → i < slots → Sub (at opens i) later
+
 -- the cell of stage j + 1, where r remains and `cost` holds the values of the next stage
 abbrev pub cellFrom : List ℕ → List ℕ → List ℕ → List ℕ → List ℕ → ℕ → ℕ → Cell
 cellFrom need late price opens cost j r = cell (fromTables price opens) (costFromTables need late price) noCost (at cost) (suc j) r

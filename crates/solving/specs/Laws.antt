@@ -1,27 +1,28 @@
 -- The test and the contribution from the tables (staging's Tables.antt), as the loops use them: at stage j + 1 the test is that the price
--- is not barred and the set within the open set of index j; a contribution is small; and the cells that need no walk.
+-- is not barred and the set within the open set of index j; a contribution is small; which cells need no walk.
 -- Assumes nothing.
 use mathlib.Core.Path.{_≡_, sym, ap, ap₂, _∙_, subst}
-use mathlib.Core.Bool.{_&&_}
+use mathlib.Core.Bool.{true, not, _&&_, _||_}
+use mathlib.Core.Logic.{⊎-elim}
 use mathlib.Core.List.{List}
-use Prim.Native.Nat.{ℕ, suc, _+_, _-_, _*_, _≤_, _<_}
-use native.Mathlib.Nat.{mul-comm, mul-le-mul}
+use Prim.Native.Nat.{ℕ, zero, suc, _+_, _-_, _*_, _≤_, _<_}
+use native.Mathlib.Nat.{mul-comm, mul-le-mul, eq-or-lt-of-le}
 use native.Mathlib.Omega.{arith}
 use lib.Arith.{digits-lt}
-use lib.Bits.{bitAnd, and-le-l}
+use lib.Bits.{bitAnd, bitOr, and-le-l}
 use lib.Count.{ones}
-use lib.Dec.{T, ltb, ltb→lt, eqb→eq}
+use lib.Dec.{T, ltb, eqb, ltb→lt, eqb→eq}
 use lib.ListN.{length}
 use borrow.Author.Tests.{lt-ltb, eq-eqb}
-use Rattle.fold.specs.Test.{both-of}
-use Rattle.sets.specs.Subset.{Sub, subset, sub-le}
+use Rattle.fold.specs.Test.{of-true, both-of, either-of, not-of}
+use Rattle.sets.specs.Subset.{Sub, subset, sub-le, sub-refl, sub-trans, sub-or-left, sub-or-right}
 use Rattle.optimum.specs.Workspace.{at}
 use Rattle.optimum.specs.Stages.{tab, choice, tab-small}
-use Rattle.optimum.specs.Direct.{last-whole, crowded-none}
+use Rattle.optimum.specs.Direct.{last-whole, crowded-none, outside-none}
 use Rattle.optimum.specs.Layers.{Table}
 use Rattle.staging.specs.Tables.{barred, fromTables, costFromTables, noCost}
 use Rattle.staging.specs.Reachable.{Reachable, reachable-next}
-use Rattle.solving.specs.Given.{mostLate, most, Given, Rests, Room, lastFrom}
+use Rattle.solving.specs.Given.{mostLate, most, Given, Rests, Room, Later, lastFrom}
 
 -- ---- the test
 
@@ -100,3 +101,41 @@ module _ {size slots : ℕ} {need late price opens : List ℕ} (g : Given size s
       crowded-none (fromTables price opens) (costFromTables need late price) noCost r tracks
       (λ t q s b hs may. room .enough s (omega (arith, sub-le s q hs)) (serve-priced price opens t q s may)) k t r (omega arith)
       (omega (arith, mul-comm tracks k))
+
+-- ---- the trains that may still be served, from the last slot down
+
+pub later-last : (slots : ℕ) (opens : List ℕ) (j : ℕ) → suc j ≡ slots → Later slots j (at opens j) opens
+later-last slots opens j e =
+    record { holds = λ i l m. let same : j ≡ i = omega arith in subst (λ x. Sub (at opens x) (at opens j)) same (sub-refl (at opens j)) }
+
+pub later-next : {slots j later : ℕ} {opens : List ℕ} (k : ℕ) → Later slots j later opens → suc k ≡ j → Later slots k (bitOr later (at opens k)) opens
+later-next {j = j} {later} {opens} k h e =
+    record {
+      holds = λ i l m.
+          ⊎-elim
+          (λ (same : k ≡ i). subst (λ x. Sub (at opens x) (bitOr later (at opens k))) same (sub-or-right (at opens k) later (at opens k) (sub-refl (at opens k))))
+          (λ (behind : k < i). sub-or-left (at opens i) later (at opens k) (h .holds i (omega arith) m))
+          (eq-or-lt-of-le l);
+    }
+
+-- a set with a train that may be served no more
+pub closed-cell : {slots later : ℕ} (need late price opens : List ℕ) (j r : ℕ) → Later slots j later opens → j ≤ slots → (Sub r later → ⊥)
+    → (noCost ≡ tab (fromTables price opens) (costFromTables need late price) noCost (slots - j) (suc j) r)
+    × (0 ≡ choice (fromTables price opens) (costFromTables need late price) noCost (slots - j) (suc j) r)
+closed-cell {slots} {later} need late price opens j r h l not =
+    outside-none (fromTables price opens) (costFromTables need late price) noCost (suc j) (suc slots) later inside (slots - j) (suc j) r (omega arith) (omega arith) not
+  where
+    inside : (t q s : ℕ) → suc j ≤ t → t < suc slots → T (fromTables price opens t q s) → Sub s later
+    inside zero q s a b may = absurd (omega arith)
+    inside (suc i) q s a b may = sub-trans s (at opens i) later (serve-open price opens i q s may) (h .holds i (omega arith) (omega arith))
+
+-- the code's test: a set for which there is no room, or with a train that may be served no more
+pub hopeless-cell : {size slots tracks later : ℕ} {need late price opens : List ℕ} (j r : ℕ) → Given size slots need late price opens → Room size tracks price
+    → Later slots j later opens → j ≤ slots → r < size → (ltb (tracks * (slots - j)) (ones r) || not (eqb (bitAnd r later) r)) ≡ true
+    → (noCost ≡ tab (fromTables price opens) (costFromTables need late price) noCost (slots - j) (suc j) r)
+    × (0 ≡ choice (fromTables price opens) (costFromTables need late price) noCost (slots - j) (suc j) r)
+hopeless-cell {slots = slots} {tracks} {later} {need} {late} {price} {opens} j r g room h l in-size e =
+    let crowded = ltb (tracks * (slots - j)) (ones r) in
+    ⊎-elim (λ a. crowded-cell g (slots - j) (suc j) r room in-size (ltb→lt (tracks * (slots - j)) (ones r) a))
+    (λ a. closed-cell need late price opens j r h l (λ q. not-of (eqb (bitAnd r later) r) a (of-true (eq-eqb (bitAnd r later) r q))))
+    (either-of crowded (not (eqb (bitAnd r later) r)) (of-true e))

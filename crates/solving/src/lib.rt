@@ -10,7 +10,7 @@ ghost use Rattle.optimum.specs.Layers.{Every, Solved};
 ghost use Rattle.optimum.specs.Chosen.{rowIn, Leads};
 ghost use Rattle.staging.specs.Tables.{fromTables, costFromTables, noCost};
 ghost use Rattle.staging.specs.Reachable.{Reachable};
-ghost use Rattle.solving.specs.Given.{Given, Rests, Room, cellFrom, lastFrom};
+ghost use Rattle.solving.specs.Given.{Given, Rests, Room, Later, cellFrom, lastFrom};
 
 // A cell of the table: the least value, and the set that is served for it.
 struct Pick {
@@ -103,8 +103,9 @@ fn fill_last(
 }
 
 // The table of slot j + 1 from that of the next slot, and its choices, set by set from the largest: a cell reads values of sets no larger
-// than its own, which are still the next slot's. No walk where r has more trains than the slots left have tracks for: it cannot be served.
-// No cell where more trains are gone than the slots before have tracks for: r cannot remain.
+// than its own, which are still the next slot's. No walk where r has more trains than the slots left have tracks for, or one outside
+// `later`, whose window has passed: r cannot be served. No cell where more trains are gone than the slots before have tracks for: r cannot
+// remain.
 fn fill_slot(
     cost: &mut [u64],
     choice: &mut [u16],
@@ -113,11 +114,12 @@ fn fill_slot(
     price: &[u32],
     opens: &[usize],
     tracks: u32,
+    later: usize,
     j: usize,
     slots: usize,
     size: usize,
 )
-    requires { ⌜ Given size slots (now need) (now late) (now price) (now opens) × Room size tracks (now price) × (0 < j) × (j < slots) × (size ≤ length (now cost)) × (slots * size ≤ length (now choice)) × Solved (fromTables (now price) (now opens)) (costFromTables (now need) (now late) (now price)) noCost (Reachable size tracks) size slots (j + 1) (now cost) (now choice) (now cost) (now choice) ⌝ }
+    requires { ⌜ Given size slots (now need) (now late) (now price) (now opens) × Room size tracks (now price) × Later slots j later (now opens) × (0 < j) × (j < slots) × (size ≤ length (now cost)) × (slots * size ≤ length (now choice)) × Solved (fromTables (now price) (now opens)) (costFromTables (now need) (now late) (now price)) noCost (Reachable size tracks) size slots (j + 1) (now cost) (now choice) (now cost) (now choice) ⌝ }
     ensures { λ _. ⌜ Solved (fromTables (now (price .entry)) (now (opens .entry))) (costFromTables (now (need .entry)) (now (late .entry)) (now (price .entry))) noCost (Reachable size tracks) size slots j (now (cost .entry)) (now (choice .entry)) (now (cost .exit)) (now (choice .exit)) ⌝ }
 {
     let room = tracks * ((slots - j) as u32);
@@ -128,7 +130,7 @@ fn fill_slot(
         r -= 1;
         let trains = usize::count_ones(r);
         if all <= trains + gone {
-            let p = if room < trains {
+            let p = if (room < trains) | (r & later != r) {
                 Pick {
                     value: staging::NONE,
                     set: 0,
@@ -182,8 +184,10 @@ pub fn solve(
 {
     fill_last(cost, choice, need, late, price, opens, slots, size);
     let mut j = slots - 1;
+    let mut later = opens[j];
     while 1 < j {
         j -= 1;
+        later = later | opens[j];
         fill_slot(
             cost,
             choice,
@@ -192,6 +196,7 @@ pub fn solve(
             price,
             opens,
             tracks,
+            later,
             j,
             slots,
             size,

@@ -1,35 +1,40 @@
--- `solving::solve` meets its contract. The invariant: optimum's `Solved` for what can remain, slot by slot from the last.
+-- `solving::solve` meets its contract. The invariant: optimum's `Solved` for what can remain, slot by slot from the last; and `later` holds
+-- every train that may be served in the slots that are done.
 -- Assumes nothing.
+use Prim.Native.Nat.{_-_}
 use mathlib.Core.Path.{_≡_, refl, _∙_}
 use native.Mathlib.Omega.{arith}
 use lib.ListN.{length}
 use Rattle.optimum.specs.Layers.{Solved, solved-here, solved-then, solved-some}
 use Rattle.staging.specs.Tables.{fromTables, costFromTables, noCost}
 use Rattle.staging.specs.Reachable.{Reachable}
+use Rattle.solving.specs.Given.{Later}
+use Rattle.solving.specs.Laws.{later-last, later-next}
 use Rattle.solving.proofs.solve.Statement.{statement}
 use Rattle.solving.proofs.solve.Tie as tie
 
 abbrev Inv-loop : tie.InvT-loop
-Inv-loop cost₀ choice₀ need late price opens tracks slots size j₀ cost choice j =
+Inv-loop cost₀ choice₀ need late price opens tracks slots size j₀ later₀ cost choice j later =
     Solved (fromTables price opens) (costFromTables need late price) noCost (Reachable size tracks) size slots j cost₀ choice₀ cost choice
+    × Later slots j later opens
 
 abbrev μ-loop : tie.MeasureT-loop
-μ-loop cost₀ choice₀ need late price opens tracks slots size j₀ cost choice j = j
+μ-loop cost₀ choice₀ need late price opens tracks slots size j₀ later₀ cost choice j later = j
 
 -- the function's arguments, and what filling the last slot left, seen from the loop
 abbrev from : tie.At-loop Inv-loop μ-loop → tie.Start Inv-loop μ-loop
-from c = c .before .before .before .before .before .before .before .before .before .before .before .before .before .before
+from c = c .before .before .before .before .before .before .before .before .before .before .before .before .before .before .before
 
 abbrev filled : tie.At-loop Inv-loop μ-loop → tie.After-fill-last Inv-loop μ-loop
-filled c = c .before .before .before .before .before
+filled c = c .before .before .before .before .before .before
 
 -- the workspaces are still as long
 module _ (c : tie.At-loop Inv-loop μ-loop) where
   costs : length (c .loop .cost) ≡ length (from c .args .cost .now)
-  costs = c .loop .inv .kept .long ∙ filled c .fill-last .ensures .kept .long
+  costs = c .loop .inv .0 .kept .long ∙ filled c .fill-last .ensures .kept .long
 
   choices : length (c .loop .choice) ≡ length (from c .args .choice .now)
-  choices = c .loop .inv .choices .kept .long ∙ filled c .fill-last .ensures .choices .kept .long
+  choices = c .loop .inv .0 .choices .kept .long ∙ filled c .fill-last .ensures .choices .kept .long
 
 fill-last-requires : tie.Need-fill-last-requires Inv-loop μ-loop
 fill-last-requires c κs = let s = c .before .before .before .before .before .before .before .before in (s .pre .0, s .pre .2, s .pre .3)
@@ -37,36 +42,53 @@ fill-last-requires c κs = let s = c .before .before .before .before .before .be
 sub-j : tie.Need-sub-j Inv-loop μ-loop
 sub-j c = omega (arith, c .before .before .before .before .before .before .before .before .before .before .before .before .before .pre .0 .stages)
 
+mul-later : tie.Need-mul-later Inv-loop μ-loop
+mul-later c = omega (arith, c .before .before .before .before .before .before .before .before .before .before .before .before .before .pre .0 .stages)
+
+shared-slice-read-later : tie.Need-shared-slice-read-later Inv-loop μ-loop
+shared-slice-read-later c = omega (arith, c .before .before .before .before .before .before .before .before .before .before .before .before .before .before .pre .0 .stages, c .before .before .before .before .before .before .before .before .before .before .before .before .before .before .pre .0 .opened)
+
 loop-holds : tie.Need-loop-holds Inv-loop μ-loop
-loop-holds c = solved-here _ (solved-some (c .before .before .before .before .fill-last .ensures)) refl
+loop-holds c =
+    let s = c .before .before .before .before .before .before .before .before .before .before .before .before .before .before in
+    (solved-here _ (solved-some (c .before .before .before .before .before .fill-last .ensures)) refl, later-last (s .args .slots) (s .args .opens .now) (s .args .slots - 1) (omega (arith, s .pre .0 .stages)))
 
 sub-j-2 : tie.Need-sub-j-2 Inv-loop μ-loop
 sub-j-2 c = omega arith
 
+mul-later-2 : tie.Need-mul-later-2 Inv-loop μ-loop
+mul-later-2 c = omega (arith, c .before .loop .inv .0 .within, from (c .before) .pre .0 .stages)
+
+shared-slice-read-later-2 : tie.Need-shared-slice-read-later-2 Inv-loop μ-loop
+shared-slice-read-later-2 c = omega (arith, c .before .before .loop .inv .0 .within, from (c .before .before) .pre .0 .opened)
+
 fill-slot-requires : tie.Need-fill-slot-requires Inv-loop μ-loop
 fill-slot-requires c κs =
-    let a = c .before .before .before in
+    let a = c .before .before .before .before in
     let s = from a in (
       s .pre .0,
       s .pre .1,
+      later-next _ (a .loop .inv .1) (omega arith),
       omega arith,
-      omega (arith, a .loop .inv .within),
+      omega (arith, a .loop .inv .0 .within),
       omega (arith, costs a, s .pre .2),
       omega (arith, choices a, s .pre .3),
-      solved-here _ (a .loop .inv) (omega arith),
+      solved-here _ (a .loop .inv .0) (omega arith),
     )
 
 loop-less : tie.Need-loop-less Inv-loop μ-loop
 loop-less c = omega arith
 
 loop-again : tie.Need-loop-again Inv-loop μ-loop
-loop-again c = solved-then _ (c .before .before .before .before .before .before .before .before .loop .inv) (c .before .before .before .before .fill-slot .ensures) refl
+loop-again c =
+    let a = c .before .before .before .before .before .before .before .before .before in
+    (solved-then _ (a .loop .inv .0) (c .before .before .before .before .fill-slot .ensures) refl, later-next _ (a .loop .inv .1) (omega arith))
 
 fill-first-requires : tie.Need-fill-first-requires Inv-loop μ-loop
 fill-first-requires c κs =
     let a = c .before .before .before .before in
     let s = from a in
-    (s .pre .0, s .pre .1, omega (arith, costs a, s .pre .2), omega (arith, choices a, s .pre .3), solved-here _ (a .loop .inv) (omega arith))
+    (s .pre .0, s .pre .1, omega (arith, costs a, s .pre .2), omega (arith, choices a, s .pre .3), solved-here _ (a .loop .inv .0) (omega arith))
 
 same-length : tie.Need-same-length Inv-loop μ-loop
 same-length c = c .before .before .before .before .fill-first .ensures .kept .long ∙ costs (c .before .before .before .before .before .before .before .before .before)
@@ -77,7 +99,7 @@ same-length-2 c = c .before .before .before .before .fill-first .ensures .choice
 returns : tie.Need-returns Inv-loop μ-loop
 returns c =
     let a = c .before .before .before .before .before .before .before .before .before in
-    solved-then 0 (solved-some (filled a .fill-last .ensures)) (solved-then 0 (a .loop .inv) (c .before .before .before .before .fill-first .ensures) refl) refl
+    solved-then 0 (solved-some (filled a .fill-last .ensures)) (solved-then 0 (a .loop .inv .0) (c .before .before .before .before .fill-first .ensures) refl) refl
 
 same-length-3 : tie.Need-same-length-3 Inv-loop μ-loop
 same-length-3 c = costs (c .before .before)
@@ -86,7 +108,7 @@ same-length-4 : tie.Need-same-length-4 Inv-loop μ-loop
 same-length-4 c = choices (c .before .before)
 
 returns-2 : tie.Need-returns-2 Inv-loop μ-loop
-returns-2 c = solved-then 0 (solved-some (filled (c .before .before) .fill-last .ensures)) (c .before .before .loop .inv) (omega arith)
+returns-2 c = solved-then 0 (solved-some (filled (c .before .before) .fill-last .ensures)) (c .before .before .loop .inv .0) (omega arith)
 
 pub solve-spec : {M : Type 1} → statement M
 solve-spec =
@@ -96,8 +118,12 @@ solve-spec =
     μ-loop
     fill-last-requires
     sub-j
+    mul-later
+    shared-slice-read-later
     loop-holds
     sub-j-2
+    mul-later-2
+    shared-slice-read-later-2
     fill-slot-requires
     loop-less
     loop-again
