@@ -144,7 +144,8 @@ fn fill_slot(
     }
 }
 
-// The cell of all trains in the first slot, from the table of the second: before the first slot nothing else can remain.
+// The cell of all trains in the first slot, from the table of the second: before the first slot nothing else can remain. `tracks` is
+// read by the contract alone.
 fn fill_first(
     cost: &mut [u64],
     choice: &mut [u16],
