@@ -1,7 +1,9 @@
-/* The planning call in C: the algorithm of crates/planning with its tables and types, unproved, to time the proved one against.
+/* The planning call in C: the algorithm of crates/planning with its tables and types, unproved, to time the proved one against. With
+ * -DPLAIN the plain algorithm, which walks every cell of every slot: what the proved call's own steps save.
  *
- * Reads a day file from standard input (trusting its form; what it cannot read gives a record of zeros), plans it PLANS times in the same areas, and prints what crates/plan_speed
- * prints: revisits, split moves and cost; the row; the words of the two areas joined by exclusive or.
+ * Reads a day file from standard input (trusting its form; what it cannot read gives a record of zeros), plans it PLANS times in the same
+ * areas, and prints what crates/plan_speed prints: revisits, split moves and cost; the row; the words of the two areas joined by exclusive
+ * or (which differ with -DPLAIN: it fills more cells).
  */
 #include <stdint.h>
 #include <stdio.h>
@@ -115,49 +117,126 @@ static void fill_price(uint32_t *price, const uint8_t *boxes, size_t n, size_t s
         price[s] = (uint32_t)__builtin_popcountll(s) <= tracks ? split * price[s] : BARRED;
 }
 
-static void fill_open(uint16_t *opens, const struct day *d)
+static void fill_open(uint64_t *opens, const struct day *d)
 {
     for (size_t j = 0; j < d->slots; j++) {
         opens[j] = 0;
         for (size_t i = 0; i < d->trains; i++)
             if (d->first[i] <= j + 1 && j + 1 <= d->last[i])
-                opens[j] |= (uint16_t)(1u << i);
+                opens[j] |= (uint64_t)1 << i;
     }
 }
 
 /* ---- the stages, as crates/solving */
 
-static void solve(uint64_t *cost, uint16_t *choice, const uint16_t *need, const uint32_t *late, const uint32_t *price,
-                  const uint16_t *opens, size_t slots, size_t size)
+/* A cell of the table: the least value, and the set that is served for it. */
+struct pick {
+    uint64_t value;
+    uint16_t set;
+};
+
+static struct pick cheapest(const uint64_t *cost, const uint16_t *need, const uint32_t *late, const uint32_t *price,
+                            const uint64_t *opens, size_t j, size_t r)
 {
+    size_t ready = r & opens[j];
+    struct pick p = {NONE, 0};
+    for (size_t s = ready;; s = (s - 1) & ready) {
+        uint32_t splits = price[s];
+        if (splits < BARRED) {
+            size_t rest = r - s;
+            uint64_t after = cost[rest];
+            if (after < NONE) {
+                uint64_t total = after + ((uint64_t)late[s & need[rest]] + splits);
+                if (total < p.value) {
+                    p.value = total;
+                    p.set = (uint16_t)s;
+                }
+            }
+        }
+        if (s == 0)
+            return p;
+    }
+}
+
+#ifdef PLAIN
+
+/* The plain algorithm: every cell of every slot is walked, over the values where no slot is left. */
+static void solve(uint64_t *cost, uint16_t *choice, const uint16_t *need, const uint32_t *late, const uint32_t *price,
+                  const uint64_t *opens, uint32_t tracks, size_t slots, size_t size)
+{
+    (void)tracks;
     for (size_t i = 0; i < size; i++)
         cost[i] = i == 0 ? 0 : NONE;
     for (size_t j = slots; j-- > 0;) {
         for (size_t r = size; r-- > 0;) {
-            size_t ready = r & opens[j];
-            uint64_t least = NONE;
-            uint16_t chosen = 0;
-            for (size_t s = ready;; s = (s - 1) & ready) {
-                uint32_t splits = price[s];
-                if (splits < BARRED) {
-                    size_t rest = r - s;
-                    uint64_t after = cost[rest];
-                    if (after < NONE) {
-                        uint64_t total = after + ((uint64_t)late[s & need[rest]] + splits);
-                        if (total < least) {
-                            least = total;
-                            chosen = (uint16_t)s;
-                        }
-                    }
-                }
-                if (s == 0)
-                    break;
-            }
-            cost[r] = least;
-            choice[j * size + r] = chosen;
+            struct pick p = cheapest(cost, need, late, price, opens, j, r);
+            cost[r] = p.value;
+            choice[j * size + r] = p.set;
         }
     }
 }
+
+#else
+
+static void fill_last(uint64_t *cost, uint16_t *choice, const uint16_t *need, const uint32_t *late, const uint32_t *price,
+                      const uint64_t *opens, size_t slots, size_t size)
+{
+    size_t j = slots - 1;
+    for (size_t r = size; r-- > 0;) {
+        uint32_t splits = price[r];
+        struct pick p = {NONE, 0};
+        if (splits < BARRED && (r & opens[j]) == r) {
+            p.value = (uint64_t)late[r & need[0]] + splits;
+            p.set = (uint16_t)r;
+        }
+        cost[r] = p.value;
+        choice[j * size + r] = p.set;
+    }
+}
+
+static void fill_slot(uint64_t *cost, uint16_t *choice, const uint16_t *need, const uint32_t *late, const uint32_t *price,
+                      const uint64_t *opens, uint32_t tracks, size_t later, size_t j, size_t slots, size_t size)
+{
+    uint32_t room = tracks * (uint32_t)(slots - j);
+    uint32_t gone = tracks * (uint32_t)j;
+    uint32_t all = (uint32_t)__builtin_popcountll(size - 1);
+    for (size_t r = size; r-- > 0;) {
+        uint32_t trains = (uint32_t)__builtin_popcountll(r);
+        if (all <= trains + gone) {
+            struct pick p = {NONE, 0};
+            if (trains <= room && (r & later) == r)
+                p = cheapest(cost, need, late, price, opens, j, r);
+            cost[r] = p.value;
+            choice[j * size + r] = p.set;
+        }
+    }
+}
+
+static void fill_first(uint64_t *cost, uint16_t *choice, const uint16_t *need, const uint32_t *late, const uint32_t *price,
+                       const uint64_t *opens, size_t size)
+{
+    size_t r = size - 1;
+    struct pick p = cheapest(cost, need, late, price, opens, 0, r);
+    cost[r] = p.value;
+    choice[r] = p.set;
+}
+
+static void solve(uint64_t *cost, uint16_t *choice, const uint16_t *need, const uint32_t *late, const uint32_t *price,
+                  const uint64_t *opens, uint32_t tracks, size_t slots, size_t size)
+{
+    size_t j = slots - 1;
+    size_t later = opens[j];
+    fill_last(cost, choice, need, late, price, opens, slots, size);
+    while (1 < j) {
+        j--;
+        later |= opens[j];
+        fill_slot(cost, choice, need, late, price, opens, tracks, later, j, slots, size);
+    }
+    if (0 < j)
+        fill_first(cost, choice, need, late, price, opens, size);
+}
+
+#endif
 
 static void trace(const uint16_t *choice, uint8_t *row, size_t n, size_t slots, size_t size)
 {
@@ -194,7 +273,7 @@ __attribute__((noinline)) static int plan(const struct day *d, uint64_t *cost, u
 {
     uint16_t need[SETS] = {0};
     uint32_t late[SETS] = {0}, price[SETS] = {0};
-    uint16_t opens[SLOTS] = {0};
+    uint64_t opens[SLOTS] = {0};
     size_t size;
     if (!is_sound(d) || is_overbooked(d))
         return 0;
@@ -203,7 +282,7 @@ __attribute__((noinline)) static int plan(const struct day *d, uint64_t *cost, u
     fill_late(late, d->revisit, size);
     fill_price(price, d->boxes, d->trains, size, d->tracks, d->split);
     fill_open(opens, d);
-    solve(cost, choice, need, late, price, opens, d->slots, size);
+    solve(cost, choice, need, late, price, opens, d->tracks, d->slots, size);
     trace(choice, row, d->trains, d->slots, size);
     *v = value_slots(d, row);
     return 1;

@@ -45,13 +45,13 @@ module _ (ok ok′ : Test) (w w′ : Contribution) (inf N m : ℕ)
   choice-agree zero t r a b l = refl
   choice-agree (suc k) t r a b l = step k t r a (omega arith) l (λ x q. tab-agree k (suc t) x (omega arith) (omega arith) (omega arith)) .1
 
-  pub solved-agree : {a₀ c₀ a c : List ℕ} → Solved ok w inf N m 0 a₀ c₀ a c → Solved ok′ w′ inf N m 0 a₀ c₀ a c
+  pub solved-agree : {wanted : ℕ → ℕ → Type 0} {a₀ c₀ a c : List ℕ} → Solved ok w inf wanted N m 0 a₀ c₀ a c → Solved ok′ w′ inf wanted N m 0 a₀ c₀ a c
   solved-agree h =
       record {
         within = h .within;
         kept = h .kept;
-        table = λ i l. h .table i l ∙ tab-agree (m - 0) 1 i (omega arith) (omega arith) l;
-        choices = record { kept = h .choices .kept; done = λ i p q. h .choices .done i p q ∙ word i q };
+        table = record { holds = λ i l z. h .table .holds i l z ∙ tab-agree (m - 0) 1 i (omega arith) (omega arith) l };
+        choices = record { kept = h .choices .kept; done = λ i p q z. h .choices .done i p q z ∙ word i q };
       }
     where
       word : (i : ℕ) → i < m * N → choiceAt ok w inf N m i ≡ choiceAt ok′ w′ inf N m i

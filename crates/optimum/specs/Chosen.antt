@@ -1,6 +1,6 @@
 -- The row that the choices in a workspace give. `rowIn c n m N` is a function of the workspace alone, so that a call over it can promise
 -- it; `Leads` says that following the choices passes through the sets of a row. Once the two loops of Layers.antt are through
--- (`Solved`), the choices lead to the best row (`solved-leads`, `solved-best`), if there is one.
+-- (`Solved`), with all positions wanted at the first stage, the choices lead to the best row (`solved-leads`, `solved-best`), if there is one.
 -- Assumes nothing.
 use mathlib.Core.Path.{_≡_, refl, sym, ap, ap₂, _∙_, subst}
 use mathlib.Core.List.{List, [], _∷_}
@@ -14,9 +14,9 @@ use Rattle.sets.specs.Mask.{mask-lt}
 use Rattle.optimum.specs.Workspace.{at}
 use Rattle.sets.specs.Rest.{full}
 use Rattle.optimum.specs.Schedules.{Test, Contribution}
-use Rattle.optimum.specs.Stages.{tab, choice, follow}
-use Rattle.optimum.specs.Layers.{Solved, solved-table, solved-choice}
-use Rattle.optimum.specs.Rows.{stageSet, remaining, BestRow, rowOf, remaining-all, remaining-next}
+use Rattle.optimum.specs.Stages.{tab, choice, follow, tab-least, choice-lt}
+use Rattle.optimum.specs.Layers.{Closed, Solved, solved-table, solved-choice}
+use Rattle.optimum.specs.Rows.{stageSet, remaining, Row, BestRow, rowOf, stage-sub, remaining-all, remaining-next}
 use Rattle.optimum.specs.Best.{optimum, plan, plan-row, plan-sets, plan-best}
 
 -- ---- definitions
@@ -63,28 +63,44 @@ module _ (ok : Test) (w : Contribution) (inf : ℕ) where
       ∙ follow-chosen (λ j. stageSet n row (suc j)) (λ j. remaining n row (suc j)) m 1 (λ j. remaining-next n row (suc j))
       (plan-sets ok w inf n m some ∙ ap (follow ok w inf m 1) all) j l
 
+-- ---- an allowed row passes through wanted cells
+
+row-wanted : {ok : Test} {wanted : ℕ → ℕ → Type 0} {n m : ℕ} {row : List ℕ} → Row ok n m row → Closed ok wanted → wanted 0 (full n)
+    → (j : ℕ) → j ≤ m → wanted j (remaining n row (suc j))
+row-wanted {wanted = wanted} {n} {row = row} h closed top zero l = subst (wanted 0) (sym (remaining-all n row (λ i q. h .staged i q .0))) top
+row-wanted {wanted = wanted} {n} {row = row} h closed top (suc j) l =
+    subst (wanted (suc j)) (remaining-next n row (suc j))
+    (closed j (remaining n row (suc j)) (stageSet n row (suc j)) (row-wanted h closed top j (omega arith)) (stage-sub n row (suc j)) (h .passes j l))
+
 -- ---- behind the loops over stages and sets
 
-module _ {ok : Test} {w : Contribution} {inf m N : ℕ} {a₀ c₀ a c : List ℕ} (n : ℕ) (size : N ≡ 2 ^ n) (h : Solved ok w inf N m 0 a₀ c₀ a c) where
-  follow-in : (k j r : ℕ) → j + k ≡ m → r < N → followIn c N k j r ≡ follow ok w inf k (suc j) r
-  unfolding followIn follow
-  follow-in zero j r q l = refl
-  follow-in (suc k) j r q l =
-      let i : m - j ≡ suc k = omega arith in
-      let s : at c (j * N + r) ≡ choice ok w inf (suc k) (suc j) r =
-      solved-choice h j r (omega arith) l ∙ ap (λ x. choice ok w inf x (suc j) r) i in
-      ap₂ (λ (x : ℕ) (y : List ℕ). x ∷ y) s
-      (follow-in k (suc j) (r - at c (j * N + r)) (omega arith) (omega arith) ∙ ap (λ x. follow ok w inf k (suc (suc j)) (r - x)) s)
-
-  pub row-in : rowIn c n m N ≡ plan ok w inf n m
-  unfolding rowIn
-  row-in = ap (rowOf n) (follow-in m 0 (N - 1) (omega arith) (omega (arith, pow-pos n)) ∙ ap (λ x. follow ok w inf m 1 (x - 1)) size)
-
+module _ {ok : Test} {w : Contribution} {inf m N : ℕ} {wanted : ℕ → ℕ → Type 0} {a₀ c₀ a c : List ℕ} (n : ℕ) (size : N ≡ 2 ^ n)
+    (closed : Closed ok wanted) (top : wanted 0 (full n)) (h : Solved ok w inf wanted N m 0 a₀ c₀ a c) where
   -- the value of all positions, as the code reads it
   pub solved-value : at a (N - 1) ≡ optimum ok w inf n m
-  solved-value = solved-table h (N - 1) (omega (arith, pow-pos n)) ∙ ap (λ x. tab ok w inf m 1 (x - 1)) size
+  solved-value =
+      let all : N - 1 ≡ full n = ap (λ x. x - 1) size in
+      ap (at a) all ∙ solved-table h (full n) (omega (arith, pow-pos n)) top
+
+  -- from a wanted cell that has a schedule, the choices in the workspace are followed through such cells
+  follow-in : (k j r : ℕ) → j + k ≡ m → r < N → wanted j r → tab ok w inf k (suc j) r < inf → followIn c N k j r ≡ follow ok w inf k (suc j) r
+  unfolding followIn follow
+  follow-in zero j r q l z some = refl
+  follow-in (suc k) j r q l z some =
+      let i : m - j ≡ suc k = omega arith in
+      let s = choice ok w inf (suc k) (suc j) r in
+      let e : at c (j * N + r) ≡ s = solved-choice h j r (omega arith) l z ∙ ap (λ x. choice ok w inf x (suc j) r) i in
+      let next = closed j r s z (tab-least ok w inf k (suc j) r .within some) (choice-lt ok w inf k (suc j) r some .0) in
+      ap₂ (λ (x : ℕ) (y : List ℕ). x ∷ y) e
+      (ap (λ x. followIn c N k (suc j) (r - x)) e ∙ follow-in k (suc j) (r - s) (omega arith) (omega arith) next (choice-lt ok w inf k (suc j) r some .1))
 
   module _ (some : optimum ok w inf n m < inf) where
+    pub row-in : rowIn c n m N ≡ plan ok w inf n m
+    unfolding rowIn
+    row-in =
+        let all : N - 1 ≡ full n = ap (λ x. x - 1) size in
+        ap (rowOf n) (ap (followIn c N m 0) all ∙ follow-in m 0 (full n) (omega arith) (omega (arith, pow-pos n)) top some)
+
     pub solved-leads : Leads c n m N (rowIn c n m N)
     solved-leads =
         subst (Leads c n m N) (sym row-in)
@@ -93,7 +109,9 @@ module _ {ok : Test} {w : Contribution} {inf m N : ℕ} {a₀ c₀ a c : List �
           staged = plan-row ok w inf n m some .staged;
           chosen = λ j l.
               let r = remaining n (plan ok w inf n m) (suc j) in
-              solved-choice h j r l (omega (arith, mask-lt n λ i. leb (suc j) (at (plan ok w inf n m) i))) ∙ plan-choice ok w inf n m some j l;
+              solved-choice h j r l (omega (arith, mask-lt n λ i. leb (suc j) (at (plan ok w inf n m) i)))
+              (row-wanted (plan-row ok w inf n m some) closed top j (omega arith))
+              ∙ plan-choice ok w inf n m some j l;
         })
 
     pub solved-best : BestRow ok w n m (rowIn c n m N)

@@ -1,176 +1,193 @@
 -- The table in one workspace of N words, N the number of sets. The table of the next stage is turned into this stage's in place, from the
 -- last set down to the empty one: a cell reads at what remains, which is no larger than its own set, so it reads what is still old. In a
 -- second workspace, of m * N words for m stages, the choices of all stages are kept, those of stage j + 1 from the word j * N on.
--- `Ground` is the loop that writes the table where no stage is left, `Solved` the loop over the stages, `Stage` the loop over the sets.
+-- `Solved` is the loop over the stages, `Stage` the loop over the sets.
+-- Not every cell need be filled: `wanted j r` says which are, where j stages are passed and r remains. What the choices of a wanted cell
+-- leave must be wanted (`Closed`); the words of the other cells may hold anything. Where all are wanted (`Every`) this is the whole table.
 -- Assumes nothing.
-use mathlib.Core.Path.{_≡_, sym, ap, ap₂, _∙_, subst}
-use mathlib.Core.Bool.{cond}
+use mathlib.Core.Path.{_≡_, sym, ap, ap₂, _∙_, subst, subst₂}
+use mathlib.Core.Logic.{⊎-elim}
 use mathlib.Core.List.{List}
 use Prim.Native.Nat.{ℕ, suc, _+_, _-_, _*_, _/_, _%_, _≤_, _<_}
 use native.Mathlib.Omega.{arith}
+use lib.Dec.{T}
 use lib.ListN.{length, set}
 use lib.Seq.{getD-set-other}
-use lib.Dec.{eqb}
 use lib.Arith.{digits-lt, digits-div, digits-mod}
+use Rattle.fold.specs.Counting.{le-or-lt}
+use Rattle.sets.specs.Subset.{Sub}
 use Rattle.optimum.specs.Workspace.{at, Kept, kept-here, kept-then, kept-set, set-at}
 use Rattle.optimum.specs.Schedules.{Test, Contribution}
 use Rattle.optimum.specs.Stages.{cell, tab, choice, cell-reads}
 
 -- ---- definitions
 
--- where no stage is left, 0 for the empty set and inf for any other; written up to x
-pub record Ground (inf N x : ℕ) (a₀ a : List ℕ) : Type 0 where
-  pub kept : Kept N a₀ a
-  pub new : (i : ℕ) → i < x → at a i ≡ cond (eqb i 0) 0 inf
+-- the choices from a wanted cell lead to wanted cells
+abbrev pub Closed : Test → (ℕ → ℕ → Type 0) → Type 0
+Closed ok wanted = (j r s : ℕ) → wanted j r → Sub s r → T (ok (suc j) r s) → wanted (suc j) (r - s)
+
+-- all cells are wanted
+abbrev pub Every : ℕ → ℕ → Type 0
+Every j r = Unit {0}
 
 module _ (ok : Test) (w : Contribution) (inf : ℕ) where
-  -- the workspace holds the table of k stages from stage t on
-  abbrev pub Table : ℕ → ℕ → ℕ → List ℕ → Type 0
-  Table N k t a = (i : ℕ) → i < N → at a i ≡ tab ok w inf k t i
-
-  -- halfway: below x the next stage's table, from x on this stage's
-  pub record Layer (N k t x : ℕ) (a₀ a : List ℕ) : Type 0 where
-    pub kept : Kept N a₀ a
-    pub old : (i : ℕ) → i < x → at a i ≡ tab ok w inf k (suc t) i
-    pub new : (i : ℕ) → x ≤ i → i < N → at a i ≡ tab ok w inf (suc k) t i
-
   -- the choice that is kept in the word y: of stage y / N + 1, for the set y % N
   abbrev pub choiceAt : ℕ → ℕ → ℕ → ℕ
   choiceAt N m y = choice ok w inf (m - y / N) (suc (y / N)) (y % N)
 
+module _ (ok : Test) (w : Contribution) (inf : ℕ) (wanted : ℕ → ℕ → Type 0) where
+  -- the workspace holds the table of k stages behind the first j, for the sets below x
+  pub record Table (x k j : ℕ) (a : List ℕ) : Type 0 where
+    pub holds : (i : ℕ) → i < x → wanted j i → at a i ≡ tab ok w inf k (suc j) i
+
   -- the choices from the word y on are written
   pub record Choices (N m y : ℕ) (c₀ c : List ℕ) : Type 0 where
     pub kept : Kept (m * N) c₀ c
-    pub done : (i : ℕ) → y ≤ i → i < m * N → at c i ≡ choiceAt N m i
+    pub done : (i : ℕ) → y ≤ i → i < m * N → wanted (i / N) (i % N) → at c i ≡ choiceAt ok w inf N m i
 
   -- the loop over the stages, from the last down: those from j + 1 on are done
   pub record Solved (N m j : ℕ) (a₀ c₀ a c : List ℕ) : Type 0 where
     pub within : j ≤ m
     pub kept : Kept N a₀ a
-    pub table : Table N (m - j) (suc j) a
+    pub table : Table N (m - j) j a
     pub choices : Choices N m (j * N) c₀ c
 
   -- the loop over the sets at stage j + 1, from the last down: those from x on are done; a₀ and c₀ are what it began with
   pub record Stage (N m j x : ℕ) (a₀ c₀ a c : List ℕ) : Type 0 where
     pub within : x ≤ N
-    pub layer : Layer N (m - suc j) (suc j) x a₀ a
+    pub kept : Kept N a₀ a
+    pub new : (i : ℕ) → x ≤ i → i < N → wanted j i → at a i ≡ tab ok w inf (m - j) (suc j) i
     pub choices : Choices N m (j * N + x) c₀ c
 
--- ---- the loop that writes the ground
+module _ {ok : Test} {w : Contribution} {inf : ℕ} {wanted : ℕ → ℕ → Type 0} where
+  -- ---- the next stage's table, which a stage reads: below the set that was written last it still stands
 
-pub ground-start : (inf N : ℕ) (a : List ℕ) → Ground inf N 0 a a
-ground-start inf N a = record { kept = kept-here N a; new = λ i l. absurd (omega arith) }
-
-module _ {inf N x : ℕ} {a₀ a : List ℕ} where
-  pub ground-next : (v : ℕ) → Ground inf N x a₀ a → x < N → N ≤ length a → v ≡ cond (eqb x 0) 0 inf → Ground inf N (x + 1) a₀ (set a x v)
-  ground-next v h l n e =
-      record {
-        kept = kept-set x v (h .kept) l;
-        new = λ i q. set-at a x v (λ i. cond (eqb i 0) 0 inf) (omega arith) e i (λ d. h .new i (omega arith));
-      }
-
-  pub ground-end : Ground inf N x a₀ a → N ≤ x → Ground inf N N a₀ a
-  ground-end h q = record { kept = h .kept; new = λ i l. h .new i (omega arith) }
-
-choice-at : (ok : Test) (w : Contribution) (inf N m j r : ℕ) → r < N → choiceAt ok w inf N m (j * N + r) ≡ choice ok w inf (m - j) (suc j) r
-choice-at ok w inf N m j r l = ap₂ (λ x y. choice ok w inf (m - x) (suc x) y) (digits-div j l) (digits-mod j l)
-
-module _ {ok : Test} {w : Contribution} {inf : ℕ} where
-  -- ---- a layer in the workspace
-
-  -- a cell reads at sets up to r, where the next stage's table still stands: it is this stage's
-  pub layer-cell : {N k t x r : ℕ} {a₀ a : List ℕ} → Layer ok w inf N k t x a₀ a → r < x
-      → (cell ok w inf (at a) t r .value ≡ tab ok w inf (suc k) t r) × (cell ok w inf (at a) t r .set ≡ choice ok w inf (suc k) t r)
+  -- a wanted cell reads at wanted sets up to r: where the next stage's table stands there, it is this stage's
+  pub table-cell : {x k j : ℕ} {a : List ℕ} (r : ℕ) → Table ok w inf wanted x k (suc j) a → r < x
+      → ((s : ℕ) → Sub s r → T (ok (suc j) r s) → wanted (suc j) (r - s))
+      → (cell ok w inf (at a) (suc j) r .value ≡ tab ok w inf (suc k) (suc j) r) × (cell ok w inf (at a) (suc j) r .set ≡ choice ok w inf (suc k) (suc j) r)
   unfolding tab choice
-  layer-cell {k = k} {t = t} {r = r} {a = a} h q = cell-reads ok w inf (at a) (tab ok w inf k (suc t)) t r (λ x z. h .old x (omega arith))
+  table-cell {k = k} {j} {a} r h q closed =
+      cell-reads ok w inf (at a) (tab ok w inf k (suc (suc j))) (suc j) r (λ s hs may. h .holds (r - s) (omega arith) (closed s hs may))
 
-  layer-put : {N k t x : ℕ} {a₀ a : List ℕ} (r v : ℕ) → Layer ok w inf N k t x a₀ a → suc r ≡ x → x ≤ N → N ≤ length a → v ≡ tab ok w inf (suc k) t r
-      → Layer ok w inf N k t r a₀ (set a r v)
-  layer-put {N} {k} {t} {x} {a₀} {a} r v h y l n e =
-      record {
-        kept = kept-set r v (h .kept) (omega arith);
-        old = λ i q. getD-set-other a r i v 0 (λ z. omega arith) ∙ h .old i (omega arith);
-        new = λ i p q. set-at a r v (tab ok w inf (suc k) t) (omega arith) e i (λ d. h .new i (omega arith) q);
-      }
+  pub table-put : {x k j : ℕ} {a : List ℕ} (r v : ℕ) → Table ok w inf wanted x k j a → r < x → Table ok w inf wanted r k j (set a r v)
+  table-put {a = a} r v h q = record { holds = λ i l z. getD-set-other a r i v 0 (λ e. omega arith) ∙ h .holds i (omega arith) z }
 
-  -- ---- the words of the choices
+  pub table-less : {x k j : ℕ} {a : List ℕ} (r : ℕ) → Table ok w inf wanted x k j a → r ≤ x → Table ok w inf wanted r k j a
+  table-less r h q = record { holds = λ i l z. h .holds i (omega arith) z }
 
-  choices-put : {N m y : ℕ} {c₀ c : List ℕ} (j r v : ℕ) → Choices ok w inf N m y c₀ c → y ≡ suc (j * N + r) → j < m → r < N → m * N ≤ length c
-      → v ≡ choice ok w inf (m - j) (suc j) r → Choices ok w inf N m (j * N + r) c₀ (set c (j * N + r) v)
-  choices-put {N} {m} {y} {c₀} {c} j r v h z b q l e =
-      let i : j * N + r < m * N = digits-lt b q in
-      record {
-        kept = kept-set (j * N + r) v (h .kept) i;
-        done = λ x p k. set-at c (j * N + r) v (choiceAt ok w inf N m) (omega arith) (e ∙ sym (choice-at ok w inf N m j r q)) x (λ d. h .done x (omega arith) k);
-      }
+  -- ---- the loop over the sets
 
-  -- ---- the two loops
-
-  pub solved-start : {N x : ℕ} {a₀ a : List ℕ} (m : ℕ) (c : List ℕ) → Ground inf N x a₀ a → N ≤ x → Solved ok w inf N m m a c a c
-  unfolding tab
-  solved-start {N} {x} {a₀} {a} m c h q =
-      let none : 0 ≡ m - m = omega arith in
+  -- of the last stage: no choice is written yet
+  pub stage-last : {N m : ℕ} (j : ℕ) (a c : List ℕ) → suc j ≡ m → Stage ok w inf wanted N m j N a c a c
+  stage-last {N} {m} j a c e =
       record {
         within = omega arith;
         kept = kept-here N a;
-        table = subst (λ k. Table ok w inf N k (suc m) a) none (λ i l. h .new i (omega arith));
-        choices = record { kept = kept-here (m * N) c; done = λ i p k. absurd (omega arith) };
+        new = λ i p q z. absurd (omega arith);
+        choices = record { kept = kept-here (m * N) c; done = λ i p q z. absurd (omega (arith, ap (λ y. y * N) e)) };
       }
 
-  -- a loop speaks of the workspace that it began with; a₀ came before
-  pub solved-since : {N m j : ℕ} {a₁ c₀ a c : List ℕ} (i : ℕ) (a₀ : List ℕ) → Solved ok w inf N m j a₁ c₀ a c → j ≡ i → Kept N a₀ a₁
-      → Solved ok w inf N m i a₀ c₀ a c
-  solved-since {N} {m} {c₀ = c₀} {a} {c} i a₀ h e k =
-      subst (λ x. Solved ok w inf N m x a₀ c₀ a c) e
-      (record { within = h .within; kept = kept-then k (h .kept); table = h .table; choices = h .choices })
-
-  pub stage-start : {N m j : ℕ} {a₀ c₀ a c : List ℕ} (i : ℕ) → Solved ok w inf N m j a₀ c₀ a c → suc i ≡ j → Stage ok w inf N m i N a c a c
+  -- of a stage before: those of the stages behind it stand
+  pub stage-start : {N m j : ℕ} {a₀ c₀ a c : List ℕ} (i : ℕ) → Solved ok w inf wanted N m j a₀ c₀ a c → suc i ≡ j → Stage ok w inf wanted N m i N a c a c
   stage-start {N} {m} {j} {a₀} {c₀} {a} {c} i h e =
       record {
         within = omega arith;
-        layer = record {
-          kept = kept-here N a;
-          old = subst (λ x. Table ok w inf N (m - x) (suc x) a) (sym e) (h .table);
-          new = λ k p q. absurd (omega arith);
-        };
-        choices = record { kept = kept-here (m * N) c; done = λ x p q. h .choices .done x (omega (arith, ap (λ y. y * N) e)) q };
+        kept = kept-here N a;
+        new = λ k p q z. absurd (omega arith);
+        choices = record { kept = kept-here (m * N) c; done = λ x p q z. h .choices .done x (omega (arith, ap (λ y. y * N) e)) q z };
       }
 
-  -- what a turn reads is the next stage's table: `tab-small` bounds it
-  pub stage-reads : {N m j x : ℕ} {a₀ c₀ a c : List ℕ} → Stage ok w inf N m j x a₀ c₀ a c → (r : ℕ) → r < x
-      → at a r ≡ tab ok w inf (m - suc j) (suc (suc j)) r
-  stage-reads h r l = h .layer .old r l
+  -- one set more: its cell is written, the choice in the word y
+  pub stage-next : {N m j x : ℕ} {a₀ c₀ a c : List ℕ} (r y v s : ℕ) → Stage ok w inf wanted N m j x a₀ c₀ a c → suc r ≡ x → y ≡ j * N + r → j < m
+      → N ≤ length a → m * N ≤ length c → (v ≡ tab ok w inf (m - j) (suc j) r) × (s ≡ choice ok w inf (m - j) (suc j) r)
+      → Stage ok w inf wanted N m j r a₀ c₀ (set a r v) (set c y s)
+  stage-next {N} {m} {j} {x} {a₀} {c₀} {a} {c} r y v s h o f l b k e =
+      let in-size : r < N = omega (arith, h .within) in
+      let in-words : y < m * N = omega (arith, digits-lt l in-size) in
+      let kept-word : s ≡ choiceAt ok w inf N m y =
+      e .1 ∙ sym (ap (choiceAt ok w inf N m) f ∙ ap₂ (λ x y. choice ok w inf (m - x) (suc x) y) (digits-div j in-size) (digits-mod j in-size)) in
+      record {
+        within = omega arith;
+        kept = kept-set r v (h .kept) in-size;
+        new = λ i p q z. set-at a r v (tab ok w inf (m - j) (suc j)) (omega arith) (e .0) i (λ d. h .new i (omega arith) q z);
+        choices = record {
+          kept = kept-set y s (h .choices .kept) in-words;
+          done = λ i p q z. set-at c y s (choiceAt ok w inf N m) (omega arith) kept-word i (λ d. h .choices .done i (omega arith) q z);
+        };
+      }
 
-  -- one set more: its cell was found in the workspace as it stands
-  pub stage-next : {N m j x : ℕ} {a₀ c₀ a c : List ℕ} (r t v s : ℕ) → Stage ok w inf N m j x a₀ c₀ a c → suc r ≡ x → t ≡ suc j → j < m
-      → N ≤ length a → m * N ≤ length c → v ≡ cell ok w inf (at a) t r .value → s ≡ cell ok w inf (at a) t r .set
-      → Stage ok w inf N m j r a₀ c₀ (set a r v) (set c (j * N + r) s)
-  stage-next {N} {m} {j} {x} {a₀} {c₀} {a} {c} r t v s h y i l b k e f =
-      let q = layer-cell {r = r} (h .layer) (omega arith) in
-      let o : suc (m - suc j) ≡ m - j = omega arith in
+  -- sets that are not wanted are passed over
+  pub stage-pass : {N m j x : ℕ} {a₀ c₀ a c : List ℕ} (y : ℕ) → Stage ok w inf wanted N m j x a₀ c₀ a c → y ≤ x → ((i : ℕ) → y ≤ i → i < x → wanted j i → ⊥)
+      → Stage ok w inf wanted N m j y a₀ c₀ a c
+  stage-pass {N} {m} {j} {x} {a = a} {c} y h l none =
       record {
         within = omega (arith, h .within);
-        layer = layer-put r v (h .layer) y (h .within) b (e ∙ ap (λ z. cell ok w inf (at a) z r .value) i ∙ q .0);
-        choices = choices-put j r s (h .choices) (omega arith) l (omega (arith, h .within)) k
-            (f ∙ ap (λ z. cell ok w inf (at a) z r .set) i ∙ q .1 ∙ ap (λ z. choice ok w inf z (suc j) r) o);
+        kept = h .kept;
+        new = λ i p q z. ⊎-elim (λ (b : x ≤ i). h .new i b q z) (λ (b : i < x). absurd (none i p b z)) (le-or-lt x i);
+        choices = record {
+          kept = h .choices .kept;
+          done = λ i p q z. ⊎-elim (λ (b : j * N + x ≤ i). h .choices .done i b q z) (λ (b : i < j * N + x). absurd (skipped i p b z)) (le-or-lt (j * N + x) i);
+        };
+      }
+    where
+      -- the word of a set from y on below x
+      skipped : (i : ℕ) → j * N + y ≤ i → i < j * N + x → wanted (i / N) (i % N) → ⊥
+      skipped i p b z =
+          let r : ℕ = i - j * N in
+          let in-size : r < N = omega (arith, h .within) in
+          let e : i ≡ j * N + r = omega arith in
+          none r (omega arith) (omega arith) (subst₂ wanted (ap (λ k. k / N) e ∙ digits-div j in-size) (ap (λ k. k % N) e ∙ digits-mod j in-size) z)
+
+  pub stage-end : {N m j x : ℕ} {a₀ c₀ a c : List ℕ} → Stage ok w inf wanted N m j x a₀ c₀ a c → x ≡ 0 → j < m → Solved ok w inf wanted N m j a₀ c₀ a c
+  stage-end h e l =
+      record {
+        within = omega arith;
+        kept = h .kept;
+        table = record { holds = λ i q z. h .new i (omega arith) q z };
+        choices = record { kept = h .choices .kept; done = λ i p q z. h .choices .done i (omega arith) q z };
       }
 
-  pub stage-end : {N m j x : ℕ} {a₀ c₀ a₁ c₁ a c : List ℕ} (i : ℕ) → Solved ok w inf N m j a₀ c₀ a₁ c₁ → suc i ≡ j → Stage ok w inf N m i x a₁ c₁ a c → x ≡ 0
-      → Solved ok w inf N m i a₀ c₀ a c
-  stage-end {N} {m} {j} {x} {a₀} {c₀} {a₁} {c₁} {a} {c} i g e h z =
-      let o : suc (m - suc i) ≡ m - i = omega (arith, g .within) in
+  -- ---- the loop over the stages
+
+  -- what the next stage reads
+  pub solved-reads : {N m j : ℕ} {a₀ c₀ a c : List ℕ} (i : ℕ) → Solved ok w inf wanted N m j a₀ c₀ a c → suc i ≡ j → Table ok w inf wanted N (m - suc i) (suc i) a
+  solved-reads {N} {m} {a = a} i h e = subst (λ x. Table ok w inf wanted N (m - x) x a) (sym e) (h .table)
+
+  -- a call speaks of the workspaces that it was lent: they are as they stand, and a₀ and c₀ came before
+  pub solved-here : {N m j : ℕ} {a₀ c₀ a c : List ℕ} (i : ℕ) → Solved ok w inf wanted N m j a₀ c₀ a c → j ≡ i → Solved ok w inf wanted N m i a c a c
+  solved-here {N} {m} {a = a} {c} i h e =
+      subst (λ x. Solved ok w inf wanted N m x a c a c) e
+      (record { within = h .within; kept = kept-here N a; table = h .table; choices = record { kept = kept-here (m * N) c; done = h .choices .done } })
+
+  pub solved-then : {N m j k : ℕ} {a₀ c₀ a₁ c₁ a c : List ℕ} (i : ℕ) → Solved ok w inf wanted N m j a₀ c₀ a₁ c₁ → Solved ok w inf wanted N m k a₁ c₁ a c → k ≡ i
+      → Solved ok w inf wanted N m i a₀ c₀ a c
+  solved-then {N} {m} {a₀ = a₀} {c₀} {a = a} {c} i g h e =
+      subst (λ x. Solved ok w inf wanted N m x a₀ c₀ a c) e
+      (record {
+        within = h .within;
+        kept = kept-then (g .kept) (h .kept);
+        table = h .table;
+        choices = record { kept = kept-then (g .choices .kept) (h .choices .kept); done = h .choices .done };
+      })
+
+  -- where every cell is filled, those that are wanted are
+  pub solved-some : {N m j : ℕ} {a₀ c₀ a c : List ℕ} → Solved ok w inf Every N m j a₀ c₀ a c → Solved ok w inf wanted N m j a₀ c₀ a c
+  solved-some h =
       record {
-        within = omega (arith, g .within);
-        kept = kept-then (g .kept) (h .layer .kept);
-        table = subst (λ k. Table ok w inf N k (suc i) a) o (λ k l. h .layer .new k (omega arith) l);
-        choices = record { kept = kept-then (g .choices .kept) (h .choices .kept); done = λ k p q. h .choices .done k (omega arith) q };
+        within = h .within;
+        kept = h .kept;
+        table = record { holds = λ i l z. h .table .holds i l tt };
+        choices = record { kept = h .choices .kept; done = λ i p q z. h .choices .done i p q tt };
       }
 
   -- ---- behind the two loops: the table of the first stage, and the choices of all
 
-  pub solved-table : {N m : ℕ} {a₀ c₀ a c : List ℕ} → Solved ok w inf N m 0 a₀ c₀ a c → Table ok w inf N m 1 a
-  solved-table {N} {m} {a = a} h = let all : m - 0 ≡ m = omega arith in subst (λ x. Table ok w inf N x 1 a) all (h .table)
+  pub solved-table : {N m : ℕ} {a₀ c₀ a c : List ℕ} → Solved ok w inf wanted N m 0 a₀ c₀ a c → (r : ℕ) → r < N → wanted 0 r → at a r ≡ tab ok w inf m 1 r
+  solved-table {N} {m} h r l z = let all : m - 0 ≡ m = omega arith in h .table .holds r l z ∙ ap (λ k. tab ok w inf k 1 r) all
 
-  pub solved-choice : {N m : ℕ} {a₀ c₀ a c : List ℕ} → Solved ok w inf N m 0 a₀ c₀ a c → (j r : ℕ) → j < m → r < N
+  pub solved-choice : {N m : ℕ} {a₀ c₀ a c : List ℕ} → Solved ok w inf wanted N m 0 a₀ c₀ a c → (j r : ℕ) → j < m → r < N → wanted j r
       → at c (j * N + r) ≡ choice ok w inf (m - j) (suc j) r
-  solved-choice {N} {m} h j r p q = h .choices .done (j * N + r) (omega arith) (digits-lt p q) ∙ choice-at ok w inf N m j r q
+  solved-choice {N} {m} h j r p q z =
+      h .choices .done (j * N + r) (omega arith) (digits-lt p q) (subst₂ wanted (sym (digits-div j q)) (sym (digits-mod j q)) z)
+      ∙ ap₂ (λ x y. choice ok w inf (m - x) (suc x) y) (digits-div j q) (digits-mod j q)

@@ -3,6 +3,7 @@ pub mod Least
 pub mod Schedules
 pub mod Offers
 pub mod Stages
+pub mod Direct
 pub mod Tried
 pub mod Layers
 pub mod Agree

@@ -22,6 +22,11 @@ module _ (inf : ℕ) where
   offer-no true v x h = ap (λ b. cond b (v + x) inf) (le-ltb v inf (h tt))
   offer-no false v x h = refl
 
+  -- where the choice may not be made, what it leaves does not matter
+  pub offer-same : (may : Bool) (v v′ x : ℕ) → (T may → v ≡ v′) → offer inf may v x ≡ offer inf may v′ x
+  offer-same true v v′ x h = ap (λ y. offer inf true y x) (h tt)
+  offer-same false v v′ x h = refl
+
   -- an offer below inf can be taken
   pub offer-lt : (may : Bool) (v x : ℕ) → offer inf may v x < inf → T may × (v < inf)
   offer-lt true v x l =

@@ -16,7 +16,7 @@ use borrow.Author.Tests.{ne-eqb}
 use Rattle.sets.specs.Subset.{Sub}
 use Rattle.optimum.specs.Workspace.{at}
 use Rattle.optimum.specs.Least.{Least, Cell, best, best-least, least-best, least-same}
-use Rattle.optimum.specs.Offers.{offer, offer-yes, offer-lt, offer-le}
+use Rattle.optimum.specs.Offers.{offer, offer-yes, offer-same, offer-lt, offer-le}
 use Rattle.optimum.specs.Schedules.{Test, Contribution, Schedule, value, Ahead, ahead-cons}
 
 module _ (ok : Test) (w : Contribution) (inf : ℕ) where
@@ -62,11 +62,12 @@ module _ (ok : Test) (w : Contribution) (inf : ℕ) where
   unfolding cell
   cell-found tail t r h = least-best h
 
-  -- it depends on the values of sets up to r alone
-  pub cell-reads : (tail tail′ : ℕ → ℕ) (t r : ℕ) → ((x : ℕ) → x ≤ r → tail x ≡ tail′ x)
+  -- it depends on the values of what its choices leave alone
+  pub cell-reads : (tail tail′ : ℕ → ℕ) (t r : ℕ) → ((s : ℕ) → Sub s r → T (ok t r s) → tail (r - s) ≡ tail′ (r - s))
       → (cell tail t r .value ≡ cell tail′ t r .value) × (cell tail t r .set ≡ cell tail′ t r .set)
   cell-reads tail tail′ t r e =
-      cell-found tail′ t r (least-same (candidate tail′ t r) (λ u hu. ap (λ v. offer inf (ok t r u) v (w t r u)) (e (r - u) (omega arith))) (cell-least tail t r))
+      cell-found tail′ t r
+      (least-same (candidate tail′ t r) (λ u hu. offer-same inf (ok t r u) (tail (r - u)) (tail′ (r - u)) (w t r u) (e u hu)) (cell-least tail t r))
 
   pub tab-least : (k t r : ℕ) → Least inf (candidate (tab k (suc t)) t r) r 0 (tab (suc k) t r) (choice (suc k) t r)
   unfolding tab choice

@@ -21,6 +21,7 @@ use Rattle.feasibility.specs.Verdict.{SomeRow, some-no-row}
 use Rattle.optimum.specs.Layers.{Solved}
 use Rattle.optimum.specs.Chosen.{rowIn, Leads}
 use Rattle.staging.specs.Tables.{servable, slotCost, noCost}
+use Rattle.staging.specs.Reachable.{Reachable}
 use Rattle.staging.specs.Bounds.{Limited, slots-fit}
 use Rattle.staging.specs.Solution.{solution-leads, solution-best, solution-some}
 use Rattle.planning.specs.Planning.{costWords, choiceWords, bestAnswer, suffices, planned, begins, placed, rowAfter, openWords, Stays}
@@ -33,7 +34,7 @@ limited l y s = let h = sound-is l y s in record { revisit = h .weights .0; spli
 -- ---- the best row behind the solved table
 
 module _ (y : Yard) {N : ℕ} {a₀ c₀ a c : List ℕ} (s : T (sound dayLimits y)) (size : N ≡ 2 ^ y .trains) (some-row : SomeRow y)
-    (solved : Solved (servable y) (slotCost y) noCost N (y .slots) 0 a₀ c₀ a c) where
+    (solved : Solved (servable y) (slotCost y) noCost (Reachable N (y .tracks)) N (y .slots) 0 a₀ c₀ a c) where
   found : getD a (N - 1) 0 < noCost
   found =
       let h = sound-is dayLimits y s in

@@ -13,6 +13,7 @@ ghost use Rattle.planning.specs.Planning.{answer, costWords, choiceWords
 ghost use Rattle.feasibility.specs.Verdict.{SomeRow};
 ghost use Rattle.optimum.specs.Layers.{Solved};
 ghost use Rattle.staging.specs.Tables.{servable, slotCost, noCost};
+ghost use Rattle.staging.specs.Reachable.{Reachable};
 ghost use Rattle.planning.specs.Laws.{Placed, Decided};
 use day::Day;
 use day::Refusal;
@@ -41,11 +42,11 @@ fn are_enough(n: usize, slots: u8, size: usize, costs: usize, choices: usize, by
     (size <= costs) & (words <= choices) & (n <= bytes)
 }
 
-// Solves a sound day: the least cost of serving each set from slot 1 on, and the choices that lead to it. The tables are local, so that
-// the inner loop reads nothing else.
+// Solves a sound day: the least cost of serving all trains, and the choices that lead to it. The tables are local, so that the inner loop
+// reads nothing else.
 fn solve_day(day: Day, cost: &mut [u64], choice: &mut [u16], size: usize)
     requires { ⌜ T (sound dayLimits (yard day)) × ((size ≡ 2 ^ day .trains) × ((size ≤ length (now cost)) × (day .slots * size ≤ length (now choice)))) ⌝ }
-    ensures { λ _. ⌜ Solved (servable (yard day)) (slotCost (yard day)) noCost size (day .slots) 0 (now (cost .entry)) (now (choice .entry)) (now (cost .exit)) (now (choice .exit)) ⌝ }
+    ensures { λ _. ⌜ Solved (servable (yard day)) (slotCost (yard day)) noCost (Reachable size (day .tracks)) size (day .slots) 0 (now (cost .entry)) (now (choice .entry)) (now (cost .exit)) (now (choice .exit)) ⌝ }
 {
     let boxes = day.boxes;
     let first = day.first;
@@ -55,12 +56,22 @@ fn solve_day(day: Day, cost: &mut [u64], choice: &mut [u16], size: usize)
     let mut need = [0u16; 4096];
     let mut late = [0u32; 4096];
     let mut price = [0u32; 4096];
-    let mut opens = [0u16; 8];
+    let mut opens = [0usize; 8];
     tables::fill_needing(&mut need, &boxes, 12, n);
     tables::fill_late(&mut late, day.revisit, size);
     tables::fill_price(&mut price, &boxes, 12, n, size, day.tracks, day.split);
     tables::fill_open(&mut opens, &first, &last, n, slots);
-    solving::solve(cost, choice, &need, &late, &price, &opens, slots, size);
+    solving::solve(
+        cost,
+        choice,
+        &need,
+        &late,
+        &price,
+        &opens,
+        day.tracks,
+        slots,
+        size,
+    );
 }
 
 // Puts the best row of a sound day, which has an allowed one, into the first bytes of `row`.

@@ -9,7 +9,8 @@ use native.Mathlib.Omega.{arith}
 use native.Mathlib.Nat.{eq-zero-or-pos}
 use lib.Dec.{T, eqb}
 use lib.Arith.{bin-ind}
-use lib.Bits.{bitAnd, bitOr, bitXor, and-step, and-zero-l, and-zero-r, and-le-l, and-le-r, and-comm, and-self, or-disjoint, xor-add-and}
+use lib.Count.{ones, ones-step, ones-le}
+use lib.Bits.{bitAnd, bitOr, bitXor, and-step, or-step, or-comm, and-zero-l, and-zero-r, and-le-l, and-le-r, and-comm, and-self, or-disjoint, xor-add-and}
 use Rattle.fold.specs.Test.{is-true, same-test, both, both-of}
 use Rattle.fold.specs.Counting.{le-or-lt}
 use Rattle.sets.specs.Mask.{mask, mask-and, mask-ext}
@@ -62,6 +63,18 @@ sub-trans u =
     (λ n ih s r h k. sub-join n r (ih (s / 2) (r / 2) (sub-half n s h) (sub-half s r k)) (omega (arith, sub-low n s h, sub-low s r k)))
     u
 
+-- what is within one of two sets is within both together
+pub sub-or-left : (u a b : ℕ) → Sub u a → Sub u (bitOr a b)
+sub-or-left u =
+    bin-ind (λ (n : ℕ). (a b : ℕ) → Sub n a → Sub n (bitOr a b)) (λ a b h. sub-zero (bitOr a b))
+    (λ n ih a b h.
+    let half : bitOr a b / 2 ≡ bitOr (a / 2) (b / 2) = omega (arith, or-step a b) in
+    sub-join n (bitOr a b) (subst (λ (x : ℕ). Sub (n / 2) x) (sym half) (ih (a / 2) (b / 2) (sub-half n a h))) (omega (arith, or-step a b, sub-low n a h)))
+    u
+
+pub sub-or-right : (u a b : ℕ) → Sub u b → Sub u (bitOr a b)
+sub-or-right u a b h = subst (Sub u) (or-comm b a) (sub-or-left u b a h)
+
 -- a test that passes only where another does has a subset of its mask
 pub sub-mask : (n : ℕ) (p q : ℕ → Bool) → ((i : ℕ) → i < n → T (p i) → T (q i)) → Sub (mask n p) (mask n q)
 sub-mask n p q h =
@@ -83,6 +96,17 @@ sub-rest u =
     (omega (arith, sub-low n r h, sub-le (n / 2) (r / 2) (sub-half n r h))))
     u
 
+-- where a part and what it leaves are within a set, the whole is
+pub sub-parts : (u r o : ℕ) → Sub u r → Sub u o → Sub (r - u) o → Sub r o
+sub-parts u =
+    bin-ind (λ (n : ℕ). (r o : ℕ) → Sub n r → Sub n o → Sub (r - n) o → Sub r o)
+    (λ r o h k m. subst (λ (x : ℕ). Sub x o) (omega arith) m)
+    (λ n ih r o h k m.
+    sub-join r o
+    (ih (r / 2) (o / 2) (sub-half n r h) (sub-half n o k) (subst (λ (x : ℕ). Sub x (o / 2)) (half-rest n r h) (sub-half (r - n) o m)))
+    (omega (arith, sub-low n r h, sub-low n o k, sub-low (r - n) o m, sub-le (n / 2) (r / 2) (sub-half n r h))))
+    u
+
 pub rest-apart : (u r : ℕ) → Sub u r → bitAnd (r - u) u ≡ 0
 rest-apart u =
     bin-ind (λ (n : ℕ). (r : ℕ) → Sub n r → bitAnd (r - n) n ≡ 0)
@@ -94,6 +118,18 @@ rest-apart u =
 
 pub rest-or : (u r : ℕ) → Sub u r → bitOr (r - u) u ≡ r
 rest-or u r h = omega (arith, or-disjoint (r - u) u (rest-apart u r h), sub-le u r h)
+
+-- each position of r is in u or in what u leaves
+pub ones-rest : (u r : ℕ) → Sub u r → ones (r - u) + ones u ≡ ones r
+ones-rest u =
+    bin-ind (λ (n : ℕ). (r : ℕ) → Sub n r → ones (r - n) + ones n ≡ ones r)
+    (λ r h.
+    let whole : r - 0 ≡ r = omega arith in
+    omega (arith, ap ones whole, ones-le 0 0 (omega arith)))
+    (λ n ih r h.
+    let rest : ones ((r - n) / 2) ≡ ones (r / 2 - n / 2) = ap ones (half-rest n r h) in
+    omega (arith, rest, ih (r / 2) (sub-half n r h), ones-step (r - n), ones-step n, ones-step r, sub-low n r h, sub-le (n / 2) (r / 2) (sub-half n r h)))
+    u
 
 -- the code's `r ^ u`
 pub rest-xor : (u r : ℕ) → Sub u r → bitXor r u ≡ r - u

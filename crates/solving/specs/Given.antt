@@ -2,13 +2,16 @@
 -- of costs fits 64 bits and stays below `noCost`. And the cell that one of them finds.
 -- Assumes nothing.
 use mathlib.Core.List.{List}
-use Prim.Native.Nat.{ℕ, suc, _*_, _≤_, _<_}
+use Prim.Native.Nat.{ℕ, suc, _-_, _*_, _≤_, _<_}
 use native.Mathlib.Omega.{arith}
+use lib.Count.{ones}
+use lib.Dec.{T}
 use lib.ListN.{length}
+use Rattle.sets.specs.Subset.{Sub}
 use Rattle.optimum.specs.Workspace.{at}
 use Rattle.optimum.specs.Least.{Cell}
-use Rattle.optimum.specs.Stages.{cell}
-use Rattle.staging.specs.Tables.{fromTables, costFromTables, noCost}
+use Rattle.optimum.specs.Stages.{cell, tab, choice}
+use Rattle.staging.specs.Tables.{barred, fromTables, costFromTables, noCost}
 
 -- the revisits of a set of 12 trains cost at most this, 12 * 65535
 abbrev pub mostLate : ℕ
@@ -20,30 +23,47 @@ most = 4295753714
 
 -- tables for the sets below `size` and for the first `slots` slots
 pub record Given (size slots : ℕ) (need late price opens : List ℕ) : Type 0 where
-  pub few : size ≤ 4096
-  pub short : slots ≤ 8
+  pub sets : (0 < size) × (size ≤ 4096)
+  pub stages : (0 < slots) × (slots ≤ 8)
   pub needs : size ≤ length need
   pub lates : size ≤ length late
   pub prices : size ≤ length price
   pub opened : slots ≤ length opens
   pub small : (x : ℕ) → x < size → at late x ≤ mostLate
 
--- values of the sets below `size`: none, or what at most 8 slots come to
-pub record Values (size : ℕ) (cost : List ℕ) : Type 0 where
-  pub long : size ≤ length cost
-  pub low : (x : ℕ) → x < size → at cost x < noCost → at cost x ≤ 8 * most
+-- values that a cell of slot j + 1 reads where r remains: of what its choices leave, none, or what at most 8 slots come to
+pub record Rests (price opens cost : List ℕ) (j r : ℕ) : Type 0 where
+  pub long : r < length cost
+  pub low : (s : ℕ) → Sub s r → T (fromTables price opens (suc j) r s) → at cost (r - s) < noCost → at cost (r - s) ≤ 8 * most
+
+-- no set below `size` that is not barred has more trains than tracks
+pub record Room (size tracks : ℕ) (price : List ℕ) : Type 0 where
+  pub few : tracks ≤ 12
+  pub enough : (s : ℕ) → s < size → at price s < barred → ones s ≤ tracks
+
+-- every train that may still be served in slot j + 1 or later is in `later`
+pub record Later (slots j later : ℕ) (opens : List ℕ) : Type 0 where
+  pub holds : (i : ℕ) → j ≤ i → i < slots → Sub (at opens i) later
 
 -- the cell of stage j + 1, where r remains and `cost` holds the values of the next stage
 abbrev pub cellFrom : List ℕ → List ℕ → List ℕ → List ℕ → List ℕ → ℕ → ℕ → Cell
 cellFrom need late price opens cost j r = cell (fromTables price opens) (costFromTables need late price) noCost (at cost) (suc j) r
 
+-- the cell of stage j + 1, where r remains and no stage is left behind it
+abbrev pub lastFrom : List ℕ → List ℕ → List ℕ → List ℕ → ℕ → ℕ → Cell
+lastFrom need late price opens j r =
+    record {
+      value = tab (fromTables price opens) (costFromTables need late price) noCost 1 (suc j) r;
+      set = choice (fromTables price opens) (costFromTables need late price) noCost 1 (suc j) r;
+    }
+
 -- what is given for more sets and slots is given for fewer
-pub given-less : {size slots : ℕ} {need late price opens : List ℕ} (x j : ℕ) → Given size slots need late price opens → x ≤ size → j ≤ slots
+pub given-less : {size slots : ℕ} {need late price opens : List ℕ} (x j : ℕ) → Given size slots need late price opens → (0 < x) × (x ≤ size) → (0 < j) × (j ≤ slots)
     → Given x j need late price opens
 given-less x j g a b =
     record {
-      few = omega (arith, g .few);
-      short = omega (arith, g .short);
+      sets = (a .0, omega (arith, g .sets));
+      stages = (b .0, omega (arith, g .stages));
       needs = omega (arith, g .needs);
       lates = omega (arith, g .lates);
       prices = omega (arith, g .prices);

@@ -1,28 +1,37 @@
 -- The test and the contribution from the tables (staging's Tables.antt), as the loops use them: at stage j + 1 the test is that the price
--- is not barred and the set within the open set of index j; and a contribution is small.
+-- is not barred and the set within the open set of index j; a contribution is small; which cells need no walk.
 -- Assumes nothing.
 use mathlib.Core.Path.{_≡_, sym, ap, ap₂, _∙_, subst}
-use mathlib.Core.Bool.{_&&_}
+use mathlib.Core.Bool.{true, not, _&&_, _||_}
+use mathlib.Core.Logic.{⊎-elim}
 use mathlib.Core.List.{List}
-use Prim.Native.Nat.{ℕ, suc, _+_, _-_, _*_, _≤_, _<_}
+use Prim.Native.Nat.{ℕ, zero, suc, _+_, _-_, _*_, _≤_, _<_}
+use native.Mathlib.Nat.{mul-comm, mul-le-mul, eq-or-lt-of-le}
 use native.Mathlib.Omega.{arith}
-use lib.Bits.{bitAnd, and-le-l}
-use lib.Dec.{T, ltb, ltb→lt, eqb→eq}
+use lib.Arith.{digits-lt}
+use lib.Bits.{bitAnd, bitOr, and-le-l}
+use lib.Count.{ones}
+use lib.Dec.{T, ltb, eqb, ltb→lt, eqb→eq}
 use lib.ListN.{length}
 use borrow.Author.Tests.{lt-ltb, eq-eqb}
-use Rattle.fold.specs.Test.{both-of}
-use Rattle.sets.specs.Subset.{Sub, subset, sub-le}
+use Rattle.fold.specs.Test.{of-true, both-of, either-of, not-of}
+use Rattle.sets.specs.Subset.{Sub, subset, sub-le, sub-refl, sub-trans, sub-or-left, sub-or-right}
 use Rattle.optimum.specs.Workspace.{at}
-use Rattle.optimum.specs.Stages.{tab, tab-small}
-use Rattle.optimum.specs.Layers.{Stage, stage-reads}
+use Rattle.optimum.specs.Stages.{tab, choice, tab-small}
+use Rattle.optimum.specs.Direct.{last-whole, crowded-none, outside-none}
+use Rattle.optimum.specs.Layers.{Table}
 use Rattle.staging.specs.Tables.{barred, fromTables, costFromTables, noCost}
-use Rattle.solving.specs.Given.{mostLate, most, Given, Values}
+use Rattle.staging.specs.Reachable.{Reachable, reachable-next}
+use Rattle.solving.specs.Given.{mostLate, most, Given, Rests, Room, Later, lastFrom}
 
 -- ---- the test
 
 module _ (price opens : List ℕ) (j r s : ℕ) where
   index : suc j - 1 ≡ j
   index = omega arith
+
+  pub test-reads : fromTables price opens (suc j) r s ≡ (ltb (at price s) barred && subset s (at opens j))
+  test-reads = ap (λ x. ltb (at price s) barred && subset s (at opens x)) index
 
   pub may-serve : at price s < barred → Sub s (at opens j) → T (fromTables price opens (suc j) r s)
   may-serve l h =
@@ -45,20 +54,88 @@ module _ {size slots : ℕ} {need late price opens : List ℕ} (g : Given size s
   pub cost-small : (t r s : ℕ) → s < size → T (fromTables price opens t r s) → costFromTables need late price t r s ≤ most
   cost-small t r s l h = omega (arith, late-small s (at need (r - s)) l, serve-priced price opens t r s h)
 
-  -- what a turn of stage j + 1 reads is the next stage's table, of at most 7 stages
-  pub stage-values : {j x : ℕ} {a₀ c₀ a c : List ℕ} (y : ℕ) → Stage (fromTables price opens) (costFromTables need late price) noCost size slots j x a₀ c₀ a c
-      → j < slots → size ≤ length a → y ≤ x → Values y a
-  stage-values {j} {x} {a = a} y h l n k =
+  -- where no set that may be served has more trains than tracks, a choice from what can remain leaves what can remain
+  pub leaves-reachable : {tracks j r : ℕ} (s : ℕ) → Room size tracks price → r < size → Reachable size tracks j r → Sub s r
+      → T (fromTables price opens (suc j) r s) → Reachable size tracks (suc j) (r - s)
+  leaves-reachable {j = j} {r} s room l h hs may =
+      reachable-next s h hs (room .enough s (omega (arith, sub-le s r hs)) (serve-priced price opens (suc j) r s may))
+
+  -- the next slot's table, of at most 7 slots, is what a cell reads
+  pub table-rests : {tracks j x r : ℕ} {a : List ℕ}
+      → Table (fromTables price opens) (costFromTables need late price) noCost (Reachable size tracks) x (slots - suc j) (suc j) a
+      → Room size tracks price → Reachable size tracks j r → j < slots → r < x → x ≤ size → size ≤ length a → Rests price opens a j r
+  table-rests {tracks} {j} {x} {r} {a} h room here l q n b =
       record {
-        long = omega (arith, h .within);
-        low = λ i q v.
+        long = omega arith;
+        low = λ s hs may v.
             let ok = fromTables price opens in
             let w = costFromTables need late price in
-            let in-size : i < size = omega (arith, h .within) in
-            let e : at a i ≡ tab ok w noCost (slots - suc j) (suc (suc j)) i = stage-reads h i (omega arith) in
+            let i : ℕ = r - s in
+            let e : at a i ≡ tab ok w noCost (slots - suc j) (suc (suc j)) i = h .holds i (omega arith) (leaves-reachable s room (omega arith) here hs may) in
             let b : tab ok w noCost (slots - suc j) (suc (suc j)) i ≤ (slots - suc j) * most =
             tab-small ok w noCost (suc (suc slots)) i most (λ t r s d b hs m. cost-small t r s (omega (arith, sub-le s r hs)) m) (slots - suc j) (suc (suc j)) i
             (omega arith) (omega arith) (omega arith) in
-            let eight : slots ≤ 8 = g .short in
+            let eight : slots ≤ 8 = g .stages .1 in
             omega arith;
       }
+
+  -- the word of a cell's choice
+  pub choice-place : (j r : ℕ) → j < slots → r < size → (j * size + r < slots * size) × (slots * size ≤ 32768)
+  choice-place j r a b = (digits-lt a b, mul-le-mul (g .stages .1) (g .sets .1))
+
+  -- ---- cells that are known without a walk
+
+  -- the whole of r in the last slot, which leaves nothing
+  pub whole-cell : (j r : ℕ) → r < size → T (fromTables price opens (suc j) r r)
+      → (at late (bitAnd r (at need 0)) + at price r ≡ lastFrom need late price opens j r .value) × (r ≡ lastFrom need late price opens j r .set)
+  whole-cell j r l may =
+      let nothing : 0 ≡ r - r = omega arith in
+      let (v, s) = last-whole (fromTables price opens) (costFromTables need late price) noCost (suc j) r may (omega (arith, cost-small (suc j) r r l may)) in
+      (ap (λ x. at late (bitAnd r (at need x)) + at price r) nothing ∙ v, s)
+
+  -- a set of more trains than the slots left have tracks for
+  pub crowded-cell : {tracks : ℕ} (k t r : ℕ) → Room size tracks price → r < size → tracks * k < ones r
+      → (noCost ≡ tab (fromTables price opens) (costFromTables need late price) noCost k t r)
+      × (0 ≡ choice (fromTables price opens) (costFromTables need late price) noCost k t r)
+  crowded-cell {tracks} k t r room l c =
+      crowded-none (fromTables price opens) (costFromTables need late price) noCost r tracks
+      (λ t q s b hs may. room .enough s (omega (arith, sub-le s q hs)) (serve-priced price opens t q s may)) k t r (omega arith)
+      (omega (arith, mul-comm tracks k))
+
+-- ---- the trains that may still be served, from the last slot down
+
+pub later-last : (slots : ℕ) (opens : List ℕ) (j : ℕ) → suc j ≡ slots → Later slots j (at opens j) opens
+later-last slots opens j e =
+    record { holds = λ i l m. let same : j ≡ i = omega arith in subst (λ x. Sub (at opens x) (at opens j)) same (sub-refl (at opens j)) }
+
+pub later-next : {slots j later : ℕ} {opens : List ℕ} (k : ℕ) → Later slots j later opens → suc k ≡ j → Later slots k (bitOr later (at opens k)) opens
+later-next {j = j} {later} {opens} k h e =
+    record {
+      holds = λ i l m.
+          ⊎-elim
+          (λ (same : k ≡ i). subst (λ x. Sub (at opens x) (bitOr later (at opens k))) same (sub-or-right (at opens k) later (at opens k) (sub-refl (at opens k))))
+          (λ (behind : k < i). sub-or-left (at opens i) later (at opens k) (h .holds i (omega arith) m))
+          (eq-or-lt-of-le l);
+    }
+
+-- a set with a train that may be served no more
+pub closed-cell : {slots later : ℕ} (need late price opens : List ℕ) (j r : ℕ) → Later slots j later opens → j ≤ slots → (Sub r later → ⊥)
+    → (noCost ≡ tab (fromTables price opens) (costFromTables need late price) noCost (slots - j) (suc j) r)
+    × (0 ≡ choice (fromTables price opens) (costFromTables need late price) noCost (slots - j) (suc j) r)
+closed-cell {slots} {later} need late price opens j r h l not =
+    outside-none (fromTables price opens) (costFromTables need late price) noCost (suc j) (suc slots) later inside (slots - j) (suc j) r (omega arith) (omega arith) not
+  where
+    inside : (t q s : ℕ) → suc j ≤ t → t < suc slots → T (fromTables price opens t q s) → Sub s later
+    inside zero q s a b may = absurd (omega arith)
+    inside (suc i) q s a b may = sub-trans s (at opens i) later (serve-open price opens i q s may) (h .holds i (omega arith) (omega arith))
+
+-- the code's test: a set for which there is no room, or with a train that may be served no more
+pub hopeless-cell : {size slots tracks later : ℕ} {need late price opens : List ℕ} (j r : ℕ) → Given size slots need late price opens → Room size tracks price
+    → Later slots j later opens → j ≤ slots → r < size → (ltb (tracks * (slots - j)) (ones r) || not (eqb (bitAnd r later) r)) ≡ true
+    → (noCost ≡ tab (fromTables price opens) (costFromTables need late price) noCost (slots - j) (suc j) r)
+    × (0 ≡ choice (fromTables price opens) (costFromTables need late price) noCost (slots - j) (suc j) r)
+hopeless-cell {slots = slots} {tracks} {later} {need} {late} {price} {opens} j r g room h l in-size e =
+    let crowded = ltb (tracks * (slots - j)) (ones r) in
+    ⊎-elim (λ a. crowded-cell g (slots - j) (suc j) r room in-size (ltb→lt (tracks * (slots - j)) (ones r) a))
+    (λ a. closed-cell need late price opens j r h l (λ q. not-of (eqb (bitAnd r later) r) a (of-true (eq-eqb (bitAnd r later) r q))))
+    (either-of crowded (not (eqb (bitAnd r later) r)) (of-true e))

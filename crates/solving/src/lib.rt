@@ -1,15 +1,16 @@
 // Solving the staged choices of a day from its tables over sets (document 01: the plan of least cost, and of equal costs the one that
 // comes before).
 //
-// Proved: `solve` leaves the table of the first slot and the choices of all slots, as optimum's `Solved` says; `trace` writes the row
-// that the choices give. Over slices, for up to 12 trains and 8 slots. Assumes nothing.
+// Proved: `solve` leaves the least cost of all trains and the choices of all slots for what can remain of them, as optimum's `Solved`
+// says; `trace` writes the row that the choices give. Over slices, for up to 12 trains and 8 slots. Assumes nothing.
 ghost use mathlib.Core.Path.{_≡_};
-ghost use Prim.Native.Nat.{_+_, _*_, _^_, _≤_};
+ghost use Prim.Native.Nat.{_+_, _-_, _*_, _^_, _≤_, _<_};
 ghost use lib.ListN.{length, take, drop};
-ghost use Rattle.optimum.specs.Layers.{Ground, Solved};
+ghost use Rattle.optimum.specs.Layers.{Every, Solved};
 ghost use Rattle.optimum.specs.Chosen.{rowIn, Leads};
 ghost use Rattle.staging.specs.Tables.{fromTables, costFromTables, noCost};
-ghost use Rattle.solving.specs.Given.{Given, Values, cellFrom};
+ghost use Rattle.staging.specs.Reachable.{Reachable};
+ghost use Rattle.solving.specs.Given.{Given, Rests, Room, Later, cellFrom, lastFrom};
 
 // A cell of the table: the least value, and the set that is served for it.
 struct Pick {
@@ -25,14 +26,14 @@ fn cheapest(
     need: &[u16],
     late: &[u32],
     price: &[u32],
-    opens: &[u16],
+    opens: &[usize],
     j: usize,
     r: usize,
 ) -> Pick
-    requires { ⌜ Given (r + 1) (j + 1) (now need) (now late) (now price) (now opens) × Values (r + 1) (now cost) ⌝ }
+    requires { ⌜ Given (r + 1) (j + 1) (now need) (now late) (now price) (now opens) × Rests (now price) (now opens) (now cost) j r ⌝ }
     ensures { λ p. ⌜ (p .value ≡ cellFrom (now (need .entry)) (now (late .entry)) (now (price .entry)) (now (opens .entry)) (now (cost .entry)) j r .value) × (p .set ≡ cellFrom (now (need .entry)) (now (late .entry)) (now (price .entry)) (now (opens .entry)) (now (cost .entry)) j r .set) ⌝ }
 {
-    let ready = r & (opens[j] as usize);
+    let ready = r & opens[j];
     let mut least: u64 = staging::NONE;
     let mut chosen: u16 = 0;
     let mut s = ready;
@@ -59,43 +60,151 @@ fn cheapest(
     }
 }
 
-// The values where no slot is left: 0 if nothing remains, none otherwise.
-fn ground(cost: &mut [u64], size: usize)
-    requires { ⌜ size ≤ length (now cost) ⌝ }
-    ensures { λ _. ⌜ Ground noCost size size (now (cost .entry)) (now (cost .exit)) ⌝ }
+// The cell of the last slot, j + 1, where r remains: nothing may be left, so all of r is served, or nothing can be.
+fn whole(need: &[u16], late: &[u32], price: &[u32], opens: &[usize], j: usize, r: usize) -> Pick
+    requires { ⌜ Given (r + 1) (j + 1) (now need) (now late) (now price) (now opens) ⌝ }
+    ensures { λ p. ⌜ (p .value ≡ lastFrom (now (need .entry)) (now (late .entry)) (now (price .entry)) (now (opens .entry)) j r .value) × (p .set ≡ lastFrom (now (need .entry)) (now (late .entry)) (now (price .entry)) (now (opens .entry)) j r .set) ⌝ }
 {
-    for i in 0..size {
-        cost[i] = if i == 0 { 0 } else { staging::NONE };
+    let splits = price[r];
+    if (splits < staging::BARRED) & (r & opens[j] == r) {
+        return Pick {
+            value: (late[r & (need[0] as usize)] as u64) + (splits as u64),
+            set: r as u16,
+        };
+    }
+    Pick {
+        value: staging::NONE,
+        set: 0,
     }
 }
 
-// The table of the first slot in the first `size` words of `cost`, and the choices of all slots in the first `slots * size` of `choice`.
-// Slot by slot from the last, set by set from the largest: a cell reads values of sets no larger than its own, which are still the next
-// slot's. The words behind stay as they were.
+// The table and the choices of the last slot: one set for each that remains.
+fn fill_last(
+    cost: &mut [u64],
+    choice: &mut [u16],
+    need: &[u16],
+    late: &[u32],
+    price: &[u32],
+    opens: &[usize],
+    slots: usize,
+    size: usize,
+)
+    requires { ⌜ Given size slots (now need) (now late) (now price) (now opens) × (size ≤ length (now cost)) × (slots * size ≤ length (now choice)) ⌝ }
+    ensures { λ _. ⌜ Solved (fromTables (now (price .entry)) (now (opens .entry))) (costFromTables (now (need .entry)) (now (late .entry)) (now (price .entry))) noCost Every size slots (slots - 1) (now (cost .entry)) (now (choice .entry)) (now (cost .exit)) (now (choice .exit)) ⌝ }
+{
+    let j = slots - 1;
+    let mut r = size;
+    while 0 < r {
+        r -= 1;
+        let p = whole(need, late, price, opens, j, r);
+        cost[r] = p.value;
+        choice[j * size + r] = p.set;
+    }
+}
+
+// The table of slot j + 1 from that of the next slot, and its choices, set by set from the largest: a cell reads values of sets no larger
+// than its own, which are still the next slot's. No walk where r has more trains than the slots left have tracks for, or one outside
+// `later`, whose window has passed: r cannot be served. No cell where more trains are gone than the slots before have tracks for: r cannot
+// remain.
+fn fill_slot(
+    cost: &mut [u64],
+    choice: &mut [u16],
+    need: &[u16],
+    late: &[u32],
+    price: &[u32],
+    opens: &[usize],
+    tracks: u32,
+    later: usize,
+    j: usize,
+    slots: usize,
+    size: usize,
+)
+    requires { ⌜ Given size slots (now need) (now late) (now price) (now opens) × Room size tracks (now price) × Later slots j later (now opens) × (0 < j) × (j < slots) × (size ≤ length (now cost)) × (slots * size ≤ length (now choice)) × Solved (fromTables (now price) (now opens)) (costFromTables (now need) (now late) (now price)) noCost (Reachable size tracks) size slots (j + 1) (now cost) (now choice) (now cost) (now choice) ⌝ }
+    ensures { λ _. ⌜ Solved (fromTables (now (price .entry)) (now (opens .entry))) (costFromTables (now (need .entry)) (now (late .entry)) (now (price .entry))) noCost (Reachable size tracks) size slots j (now (cost .entry)) (now (choice .entry)) (now (cost .exit)) (now (choice .exit)) ⌝ }
+{
+    let room = tracks * ((slots - j) as u32);
+    let gone = tracks * (j as u32);
+    let all = usize::count_ones(size - 1);
+    let mut r = size;
+    while 0 < r {
+        r -= 1;
+        let trains = usize::count_ones(r);
+        if all <= trains + gone {
+            let p = if (room < trains) | (r & later != r) {
+                Pick {
+                    value: staging::NONE,
+                    set: 0,
+                }
+            } else {
+                cheapest(cost, need, late, price, opens, j, r)
+            };
+            cost[r] = p.value;
+            choice[j * size + r] = p.set;
+        }
+    }
+}
+
+// The cell of all trains in the first slot, from the table of the second: before the first slot nothing else can remain. `tracks` is
+// read by the contract alone.
+fn fill_first(
+    cost: &mut [u64],
+    choice: &mut [u16],
+    need: &[u16],
+    late: &[u32],
+    price: &[u32],
+    opens: &[usize],
+    tracks: u32,
+    slots: usize,
+    size: usize,
+)
+    requires { ⌜ Given size slots (now need) (now late) (now price) (now opens) × Room size tracks (now price) × (size ≤ length (now cost)) × (slots * size ≤ length (now choice)) × Solved (fromTables (now price) (now opens)) (costFromTables (now need) (now late) (now price)) noCost (Reachable size tracks) size slots 1 (now cost) (now choice) (now cost) (now choice) ⌝ }
+    ensures { λ _. ⌜ Solved (fromTables (now (price .entry)) (now (opens .entry))) (costFromTables (now (need .entry)) (now (late .entry)) (now (price .entry))) noCost (Reachable size tracks) size slots 0 (now (cost .entry)) (now (choice .entry)) (now (cost .exit)) (now (choice .exit)) ⌝ }
+{
+    let r = size - 1;
+    let p = cheapest(cost, need, late, price, opens, 0, r);
+    cost[r] = p.value;
+    choice[r] = p.set;
+}
+
+// The least cost of all trains in the last of the first `size` words of `cost`, and the choices that lead to it in the first
+// `slots * size` of `choice`, slot by slot from the last: the cells of what can remain. The others of these words may hold anything; the
+// words behind stay as they were.
 pub fn solve(
     cost: &mut [u64],
     choice: &mut [u16],
     need: &[u16],
     late: &[u32],
     price: &[u32],
-    opens: &[u16],
+    opens: &[usize],
+    tracks: u32,
     slots: usize,
     size: usize,
 )
-    requires { ⌜ Given size slots (now need) (now late) (now price) (now opens) × (size ≤ length (now cost)) × (slots * size ≤ length (now choice)) ⌝ }
-    ensures { λ _. ⌜ Solved (fromTables (now (price .entry)) (now (opens .entry))) (costFromTables (now (need .entry)) (now (late .entry)) (now (price .entry))) noCost size slots 0 (now (cost .entry)) (now (choice .entry)) (now (cost .exit)) (now (choice .exit)) ⌝ }
+    requires { ⌜ Given size slots (now need) (now late) (now price) (now opens) × Room size tracks (now price) × (size ≤ length (now cost)) × (slots * size ≤ length (now choice)) ⌝ }
+    ensures { λ _. ⌜ Solved (fromTables (now (price .entry)) (now (opens .entry))) (costFromTables (now (need .entry)) (now (late .entry)) (now (price .entry))) noCost (Reachable size tracks) size slots 0 (now (cost .entry)) (now (choice .entry)) (now (cost .exit)) (now (choice .exit)) ⌝ }
 {
-    ground(cost, size);
-    let mut j = slots;
-    while 0 < j {
+    fill_last(cost, choice, need, late, price, opens, slots, size);
+    let mut j = slots - 1;
+    let mut later = opens[j];
+    while 1 < j {
         j -= 1;
-        let mut r = size;
-        while 0 < r {
-            r -= 1;
-            let p = cheapest(cost, need, late, price, opens, j, r);
-            cost[r] = p.value;
-            choice[j * size + r] = p.set;
-        }
+        later = later | opens[j];
+        fill_slot(
+            cost,
+            choice,
+            need,
+            late,
+            price,
+            opens,
+            tracks,
+            later,
+            j,
+            slots,
+            size,
+        );
+    }
+    if 0 < j {
+        fill_first(cost, choice, need, late, price, opens, tracks, slots, size);
     }
 }
 

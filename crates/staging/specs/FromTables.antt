@@ -1,7 +1,7 @@
 -- Staged choices that read the filled tables are the day's: test and contribution agree for the sets and slots of the day, so what the
 -- loops have solved over the tables they have solved over the model (`solved-day`).
 -- Assumes nothing.
-use mathlib.Core.Path.{_≡_, refl, ap, ap₂, _∙_}
+use mathlib.Core.Path.{_≡_, refl, sym, ap, ap₂, _∙_}
 use mathlib.Core.Bool.{Bool, true, false, cond, _&&_, and-comm}
 use mathlib.Core.List.{List}
 use Prim.Native.Nat.{ℕ, zero, suc, _+_, _-_, _*_, _^_, _≤_, _<_}
@@ -43,6 +43,10 @@ module _ {y : Yard} {need late price opens : List ℕ} (h : DayTables y need lat
       at true e = lt-ltb (getD price s 0) barred (omega (arith, priced s l e, h .under s l (leb-true (ones s) (y .tracks) e)))
       at false e = le-ltb (getD price s 0) barred (omega (arith, roomless s l e))
 
+  -- no set that is not barred has more trains than tracks
+  pub room-enough : (s : ℕ) → s < 2 ^ y .trains → getD price s 0 < barred → ones s ≤ y .tracks
+  room-enough s l m = leb-true (ones s) (y .tracks) (sym (has-room s l) ∙ lt-ltb (getD price s 0) barred m)
+
   pub test-agrees : (t r s : ℕ) → 1 ≤ t → t ≤ y .slots → r < 2 ^ y .trains → Sub s r → fromTables price opens t r s ≡ servable y t r s
   test-agrees zero r s a b l hs = absurd (omega arith)
   test-agrees (suc j) r s a b l hs =
@@ -62,9 +66,9 @@ module _ {y : Yard} {need late price opens : List ℕ} (h : DayTables y need lat
       (ap (λ x. getD late (bitAnd s x) 0) (h .needs (r - s) (omega arith)) ∙ h .lates (bitAnd s later) (omega (arith, and-le-l s later)))
       (priced s within room)
 
-  pub solved-day : {inf N : ℕ} {a₀ c₀ a c : List ℕ} → N ≡ 2 ^ y .trains
-      → Solved (fromTables price opens) (costFromTables need late price) inf N (y .slots) 0 a₀ c₀ a c
-      → Solved (servable y) (slotCost y) inf N (y .slots) 0 a₀ c₀ a c
+  pub solved-day : {inf N : ℕ} {wanted : ℕ → ℕ → Type 0} {a₀ c₀ a c : List ℕ} → N ≡ 2 ^ y .trains
+      → Solved (fromTables price opens) (costFromTables need late price) inf wanted N (y .slots) 0 a₀ c₀ a c
+      → Solved (servable y) (slotCost y) inf wanted N (y .slots) 0 a₀ c₀ a c
   solved-day {inf} {N} e =
       solved-agree (fromTables price opens) (servable y) (costFromTables need late price) (slotCost y) inf N (y .slots)
       (λ t r s a b l. test-agrees t r s a b (omega arith)) (λ t r s a b l. cost-agrees t r s a b (omega arith))

@@ -1,34 +1,43 @@
--- Behind the loops over stages and sets, solved for the day: the value that stands for all trains is that of the best plan, to which
--- the choices lead; and it is below `inf` exactly where a row is allowed, if the costs of all slots together are.
+-- Behind the loops over stages and sets, solved for what can remain of the day's trains: the value that stands for all trains is that of
+-- the best plan, to which the choices lead; and it is below `inf` exactly where a row is allowed, if the costs of all slots together are.
 -- Assumes nothing.
-use mathlib.Core.Path.{_≡_}
+use mathlib.Core.Path.{_≡_, ap, subst}
 use mathlib.Core.List.{List}
 use Prim.Native.Nat.{ℕ, _-_, _*_, _^_, _<_}
 use native.Mathlib.Omega.{arith}
 use lib.Dec.{T}
 use lib.ListN.{getD}
+use Rattle.sets.specs.Rest.{full}
 use Rattle.model.specs.Model.{Yard, allowed, Best}
-use Rattle.optimum.specs.Layers.{Solved}
+use Rattle.optimum.specs.Layers.{Closed, Solved}
 use Rattle.optimum.specs.Best.{optimum, row-some}
 use Rattle.optimum.specs.Chosen.{rowIn, Leads, solved-value, solved-leads, solved-best}
 use Rattle.staging.specs.Tables.{servable, slotCost}
+use Rattle.staging.specs.Reachable.{Reachable, reachable-all, reachable-closed}
 use Rattle.staging.specs.AllowedRows.{allowed-row}
 use Rattle.staging.specs.BestPlan.{best-plan}
 use Rattle.staging.specs.Bounds.{Limited, slotBound, slot-cost-small}
 
-module _ (y : Yard) {a₀ c₀ a c : List ℕ} {inf N : ℕ} (size : N ≡ 2 ^ y .trains) (solved : Solved (servable y) (slotCost y) inf N (y .slots) 0 a₀ c₀ a c) where
+module _ (y : Yard) {a₀ c₀ a c : List ℕ} {inf N : ℕ} (size : N ≡ 2 ^ y .trains)
+    (solved : Solved (servable y) (slotCost y) inf (Reachable N (y .tracks)) N (y .slots) 0 a₀ c₀ a c) where
+  closed : Closed (servable y) (Reachable N (y .tracks))
+  closed = reachable-closed y N
+
+  top : Reachable N (y .tracks) 0 (full (y .trains))
+  top = subst (Reachable N (y .tracks) 0) (ap (λ x. x - 1) size) (reachable-all N (y .tracks))
+
   value : getD a (N - 1) 0 ≡ optimum (servable y) (slotCost y) inf (y .trains) (y .slots)
-  value = solved-value (y .trains) size solved
+  value = solved-value (y .trains) size closed top solved
 
   module _ (found : getD a (N - 1) 0 < inf) where
     some : optimum (servable y) (slotCost y) inf (y .trains) (y .slots) < inf
     some = omega (arith, value)
 
     pub solution-leads : Leads c (y .trains) (y .slots) N (rowIn c (y .trains) (y .slots) N)
-    solution-leads = solved-leads (y .trains) size solved some
+    solution-leads = solved-leads (y .trains) size closed top solved some
 
     pub solution-best : Best y (rowIn c (y .trains) (y .slots) N)
-    solution-best = best-plan y (rowIn c (y .trains) (y .slots) N) (solved-best (y .trains) size solved some)
+    solution-best = best-plan y (rowIn c (y .trains) (y .slots) N) (solved-best (y .trains) size closed top solved some)
 
   pub solution-some : {W M B : ℕ} → Limited y W M B → y .slots * slotBound W M B < inf → (row : List ℕ) → T (allowed y row) → getD a (N - 1) 0 < inf
   solution-some {W} {M} {B} limited fits row h =

@@ -181,21 +181,21 @@ pub fn fill_price(
 // ---- the trains that may be served in each slot
 
 // The trains whose windows hold slot t.
-fn open_in(first: &[u8], last: &[u8], n: usize, t: u8) -> u16
+fn open_in(first: &[u8], last: &[u8], n: usize, t: u8) -> usize
     requires { ⌜ (n ≤ 12) × (n ≤ length (now first)) × (n ≤ length (now last)) ⌝ }
     ensures { λ r. ⌜ r ≡ openIn n (now (first .entry)) (now (last .entry)) t ⌝ }
 {
-    let mut mask: u16 = 0;
+    let mut mask: usize = 0;
     for i in 0..n {
         if (first[i] <= t) & (t <= last[i]) {
-            mask = mask | (1u16 << i);
+            mask = mask | (1usize << i);
         }
     }
     mask
 }
 
 // Slot t stands at t - 1.
-pub fn fill_open(opens: &mut [u16], first: &[u8], last: &[u8], n: usize, slots: usize)
+pub fn fill_open(opens: &mut [usize], first: &[u8], last: &[u8], n: usize, slots: usize)
     requires { ⌜ (n ≤ 12) × (n ≤ length (now first)) × (n ≤ length (now last)) × (slots ≤ 255) × (slots ≤ length (now opens)) ⌝ }
     ensures { λ _. ⌜ Filled (λ j. openIn n (now (first .entry)) (now (last .entry)) (suc j)) slots (now (opens .entry)) (now (opens .exit)) ⌝ }
 {

@@ -5,9 +5,10 @@ use Prim.Native.Nat.{ℕ, _^_, _≤_, _<_}
 use native.Mathlib.Nat.{pow-le-pow-right}
 use native.Mathlib.Omega.{arith}
 use lib.Dec.{lit≤}
+use lib.Pow.{pow-pos}
 use Rattle.day.specs.Sound.{dayLimits, yard}
 use Rattle.day.specs.SoundLaws.{Sound, sound-is}
-use Rattle.staging.specs.FromTables.{DayTables, solved-day}
+use Rattle.staging.specs.FromTables.{DayTables, room-enough, solved-day}
 use Rattle.tables.specs.Given.{Given}
 use borrow.Author.Needs.{needs}
 use Rattle.planning.proofs.solve_day.Statement.{statement}
@@ -25,6 +26,22 @@ small c =
 
 given : (c : tie.Start) → Given (c .args .day .trains) 12 (c .args .day .boxes)
 given c = record { few = least c .trains .1; narrow = least c .trains .1; whole = omega (arith, least c .shape .boxes) }
+
+-- when the tables are filled: the function's arguments, and that the tables are the day's
+abbrev start : tie.After-fill-open → tie.Start
+start f = f .before .before .before .before .before .before .before .before .before .before .before .before .before .before .before .before .before .before .before .before .before
+
+tables : (f : tie.After-fill-open)
+    → DayTables (yard (start f .args .day)) (f .before .before .before .before .before .before .before .before .before .before .before .before .fill-needing .last .0) (f .before .before .before .before .before .before .before .before .before .fill-late .last .0) (f .before .before .before .before .before .fill-price .last .0) (f .fill-open .last .0)
+tables f =
+    let below : (m : ℕ) → m < 2 ^ start f .args .day .trains → m < start f .args .size = λ m h. omega (arith, start f .pre .1 .0) in
+    record {
+      needs = f .before .before .before .before .before .before .before .before .before .before .before .before .fill-needing .ensures .all;
+      lates = λ m h. f .before .before .before .before .before .before .before .before .before .fill-late .ensures .0 .all m (below m h);
+      prices = λ m h. f .before .before .before .before .before .fill-price .ensures .0 .all m (below m h);
+      under = λ m h o. omega (arith, f .before .before .before .before .before .fill-price .ensures .1 m (below m h) o);
+      windows = f .fill-open .ensures .all;
+    }
 
 cast-slots : tie.Need-cast-slots
 cast-slots c = search needs
@@ -82,18 +99,20 @@ slice-aggregate-solve-4 c = search needs
 
 solve-requires : tie.Need-solve-requires
 solve-requires c κs =
-    let s = c .before .before .before .before .before .before .before .before .before .before .before .before .before .before .before .before .before .before .before .before .before .before .before .before .before .before .before .before in
+    let f = c .before .before .before .before .before .before .before in
+    let s = start f in
     let long : (k : ℕ) → k ≡ 4096 → s .args .size ≤ k = λ k e. omega (arith, small s) in
     let slots : s .args .day .slots ≤ 8 = least s .slots .1 in (
       record {
-        few = small s;
-        short = slots;
-        needs = long _ (c .before .before .before .before .before .before .before .before .before .before .before .before .before .before .before .before .before .before .before .fill-needing .kept .0);
-        lates = long _ (c .before .before .before .before .before .before .before .before .before .before .before .before .before .before .before .before .fill-late .kept .0);
-        prices = long _ (c .before .before .before .before .before .before .before .before .before .before .before .before .fill-price .kept .0);
-        opened = subst (λ k. s .args .day .slots ≤ k) (sym (c .before .before .before .before .before .before .before .fill-open .kept .0)) slots;
-        small = c .before .before .before .before .before .before .before .before .before .before .before .before .before .before .before .before .fill-late .ensures .1;
+        sets = (omega (arith, pow-pos (s .args .day .trains), s .pre .1 .0), small s);
+        stages = least s .slots;
+        needs = long _ (f .before .before .before .before .before .before .before .before .before .before .before .before .fill-needing .kept .0);
+        lates = long _ (f .before .before .before .before .before .before .before .before .before .fill-late .kept .0);
+        prices = long _ (f .before .before .before .before .before .fill-price .kept .0);
+        opened = subst (λ k. s .args .day .slots ≤ k) (sym (f .fill-open .kept .0)) slots;
+        small = f .before .before .before .before .before .before .before .before .before .fill-late .ensures .1;
       },
+      record { few = least s .tracks .1; enough = λ m h. room-enough (tables f) m (omega (arith, s .pre .1 .0)) },
       s .pre .1 .1 .0,
       s .pre .1 .1 .1,
     )
@@ -105,18 +124,7 @@ same-length-2 : tie.Need-same-length-2
 same-length-2 c = search needs
 
 returns : tie.Need-returns
-returns c =
-    let s = c .before .before .before .before .before .before .before .before .before .before .before .before .before .before .before .before .before .before .before .before .before .before .before .before .before .before .before .before .before .before .before .before .before in
-    let n = s .pre .1 .0 in
-    let below : (m : ℕ) → m < 2 ^ s .args .day .trains → m < s .args .size = λ m h. omega (arith, n) in
-    let tables : DayTables (yard (s .args .day)) (c .before .before .before .before .before .before .before .before .before .before .before .before .before .before .before .before .before .before .before .before .before .before .before .before .fill-needing .last .0) (c .before .before .before .before .before .before .before .before .before .before .before .before .before .before .before .before .before .before .before .before .before .fill-late .last .0) (c .before .before .before .before .before .before .before .before .before .before .before .before .before .before .before .before .before .fill-price .last .0) (c .before .before .before .before .before .before .before .before .before .before .before .before .fill-open .last .0) = record {
-      needs = c .before .before .before .before .before .before .before .before .before .before .before .before .before .before .before .before .before .before .before .before .before .before .before .before .fill-needing .ensures .all;
-      lates = λ m h. c .before .before .before .before .before .before .before .before .before .before .before .before .before .before .before .before .before .before .before .before .before .fill-late .ensures .0 .all m (below m h);
-      prices = λ m h. c .before .before .before .before .before .before .before .before .before .before .before .before .before .before .before .before .before .fill-price .ensures .0 .all m (below m h);
-      under = λ m h o. omega (arith, c .before .before .before .before .before .before .before .before .before .before .before .before .before .before .before .before .before .fill-price .ensures .1 m (below m h) o);
-      windows = c .before .before .before .before .before .before .before .before .before .before .before .before .fill-open .ensures .all;
-    } in
-    solved-day tables n (c .before .before .before .before .solve .ensures)
+returns c = let f = c .before .before .before .before .before .before .before .before .before .before .before .before in solved-day (tables f) (start f .pre .1 .0) (c .before .before .before .before .solve .ensures)
 
 pub solve-day-spec : {M : Type 1} → statement M
 solve-day-spec =

@@ -8,6 +8,7 @@ use borrow.Author.Needs.{needs}
 use lib.Bits.{bitAnd, and-le-l}
 use lib.Dec.{T}
 use Rattle.sets.specs.Subset.{Sub, sub-le, sub-refl, sub-trans, sub-and, walk-sub, walk-lt}
+use Rattle.sets.specs.Rest.{meet-left}
 use Rattle.optimum.specs.Workspace.{at}
 use Rattle.optimum.specs.Tried.{Tried, tried-start, tried-take, tried-keep, tried-pass, tried-is, tried-next, tried-meet}
 use Rattle.staging.specs.Tables.{barred, fromTables, costFromTables, noCost}
@@ -36,6 +37,9 @@ needed a = at (from a .args .need .now) (from a .args .r - a .loop .s)
 module _ (a : tie.At-loop Inv-loop μ-loop) where
   in-r : a .loop .s ≤ from a .args .r
   in-r = omega (arith, sub-le (a .loop .s) (ready a) (a .loop .inv .0), and-le-l (from a .args .r) (at (from a .args .opens .now) (from a .args .j)))
+
+  of-r : Sub (a .loop .s) (from a .args .r)
+  of-r = sub-trans (a .loop .s) (ready a) (from a .args .r) (a .loop .inv .0) (meet-left (from a .args .r) (at (from a .args .opens .now) (from a .args .j)))
 
   -- the windows of s hold the slot: only its price decides whether it may be served
   may : at (from a .args .price .now) (a .loop .s) < barred
@@ -68,19 +72,16 @@ tried c =
     (c .if1 .came)
 
 mul-ready : tie.Need-mul-ready Inv-loop μ-loop
-mul-ready c = omega (arith, c .pre .0 .short)
+mul-ready c = omega (arith, c .pre .0 .stages .1)
 
 shared-slice-read-ready : tie.Need-shared-slice-read-ready Inv-loop μ-loop
 shared-slice-read-ready c = omega (arith, c .before .pre .0 .opened)
-
-cast-ready : tie.Need-cast-ready Inv-loop μ-loop
-cast-ready c = omega (arith, c .shared-slice-known .given (c .before .args .j))
 
 loop-holds : tie.Need-loop-holds Inv-loop μ-loop
 loop-holds c = (sub-refl _, tried-start _ _ _ _ _ _ _)
 
 mul-splits : tie.Need-mul-splits Inv-loop μ-loop
-mul-splits c = omega (arith, in-r c, from c .pre .0 .few)
+mul-splits c = omega (arith, in-r c, from c .pre .0 .sets .1)
 
 shared-slice-read-splits : tie.Need-shared-slice-read-splits Inv-loop μ-loop
 shared-slice-read-splits c = omega (arith, in-r (c .before), from (c .before) .pre .0 .prices)
@@ -89,13 +90,13 @@ sub-rest : tie.Need-sub-rest Inv-loop μ-loop
 sub-rest c = in-r (c .before .before)
 
 mul-after : tie.Need-mul-after Inv-loop μ-loop
-mul-after c = omega (arith, from (c .before .before) .pre .0 .few)
+mul-after c = omega (arith, from (c .before .before) .pre .0 .sets .1)
 
 shared-slice-read-after : tie.Need-shared-slice-read-after Inv-loop μ-loop
 shared-slice-read-after c = omega (arith, from (c .before .before .before) .pre .1 .long)
 
 mul-total : tie.Need-mul-total Inv-loop μ-loop
-mul-total c = let a = c .before .before .before .before in omega (arith, in-r a, from a .pre .0 .few)
+mul-total c = let a = c .before .before .before .before in omega (arith, in-r a, from a .pre .0 .sets .1)
 
 shared-slice-read-total : tie.Need-shared-slice-read-total Inv-loop μ-loop
 shared-slice-read-total c = let a = c .before .before .before .before .before in omega (arith, in-r a, from a .pre .0 .needs)
@@ -104,7 +105,7 @@ cast-total : tie.Need-cast-total Inv-loop μ-loop
 cast-total c = let a = c .before .before .before .before .before in omega (arith, c .shared-slice-known4 .given (from a .args .r - a .loop .s))
 
 mul-total-2 : tie.Need-mul-total-2 Inv-loop μ-loop
-mul-total-2 c = let a = c .before .before .before .before .before in omega (arith, in-r a, from a .pre .0 .few, and-le-l (a .loop .s) (needed a))
+mul-total-2 c = let a = c .before .before .before .before .before in omega (arith, in-r a, from a .pre .0 .sets .1, and-le-l (a .loop .s) (needed a))
 
 shared-slice-read-total-2 : tie.Need-shared-slice-read-total-2 Inv-loop μ-loop
 shared-slice-read-total-2 c = let a = c .before .before .before .before .before .before in omega (arith, in-r a, from a .pre .0 .lates, and-le-l (a .loop .s) (needed a))
@@ -121,11 +122,11 @@ add-total c = let a = c .before .before .before .before .before .before in omega
 add-total-2 : tie.Need-add-total-2 Inv-loop μ-loop
 add-total-2 c =
     let a = c .before .before .before .before .before .before in
-    let after = from a .pre .1 .low (from a .args .r - a .loop .s) (omega arith) (c .before .before .if2 .taken) in
+    let after = from a .pre .1 .low (a .loop .s) (of-r a) (may a (c .before .before .before .before .if1 .taken)) (c .before .before .if2 .taken) in
     omega (arith, late a, c .before .before .before .before .if1 .taken, after)
 
 cast-chosen : tie.Need-cast-chosen Inv-loop μ-loop
-cast-chosen c = let a = c .before .before .before .before .before .before .before in omega (arith, in-r a, from a .pre .0 .few)
+cast-chosen c = let a = c .before .before .before .before .before .before .before in omega (arith, in-r a, from a .pre .0 .sets .1)
 
 returns : tie.Need-returns Inv-loop μ-loop
 returns c =
@@ -153,7 +154,6 @@ cheapest-spec =
     μ-loop
     mul-ready
     shared-slice-read-ready
-    cast-ready
     loop-holds
     mul-splits
     shared-slice-read-splits

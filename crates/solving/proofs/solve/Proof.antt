@@ -1,151 +1,136 @@
--- `solving::solve` meets its contract. The invariants: optimum's `Solved`, slot by slot from the last, and `Stage`, set by set from the largest.
+-- `solving::solve` meets its contract. The invariant: optimum's `Solved` for what can remain, slot by slot from the last; and `later` holds
+-- every train that may be served in the slots that are done.
 -- Assumes nothing.
-use Prim.Native.Nat.{_+_, _-_, _*_, _≤_, _<_}
-use mathlib.Core.Path.{refl, _∙_}
-use native.Mathlib.Nat.{mul-le-mul}
+use Prim.Native.Nat.{_-_}
+use mathlib.Core.Path.{_≡_, refl, _∙_}
 use native.Mathlib.Omega.{arith}
-use borrow.Author.Needs.{needs}
-use lib.Arith.{digits-lt}
 use lib.ListN.{length}
-use Rattle.optimum.specs.Layers.{Solved, Stage, solved-start, solved-since, stage-start, stage-next, stage-end}
+use Rattle.optimum.specs.Layers.{Solved, solved-here, solved-then, solved-some}
 use Rattle.staging.specs.Tables.{fromTables, costFromTables, noCost}
-use Rattle.solving.specs.Given.{given-less}
-use Rattle.solving.specs.Laws.{stage-values}
+use Rattle.staging.specs.Reachable.{Reachable}
+use Rattle.solving.specs.Given.{Later}
+use Rattle.solving.specs.Laws.{later-last, later-next}
 use Rattle.solving.proofs.solve.Statement.{statement}
 use Rattle.solving.proofs.solve.Tie as tie
 
-abbrev Inv-loop2 : tie.InvT-loop2
-Inv-loop2 cost₀ choice₀ need late price opens slots size j r₀ cost choice r =
-    Stage (fromTables price opens) (costFromTables need late price) noCost size slots j r cost₀ choice₀ cost choice
-
-abbrev μ-loop2 : tie.MeasureT-loop2
-μ-loop2 cost₀ choice₀ need late price opens slots size j r₀ cost choice r = r
-
 abbrev Inv-loop : tie.InvT-loop
-Inv-loop cost₀ choice₀ need late price opens slots size j₀ cost choice j =
-    Solved (fromTables price opens) (costFromTables need late price) noCost size slots j cost₀ choice₀ cost choice
+Inv-loop cost₀ choice₀ need late price opens tracks slots size j₀ later₀ cost choice j later =
+    Solved (fromTables price opens) (costFromTables need late price) noCost (Reachable size tracks) size slots j cost₀ choice₀ cost choice
+    × Later slots j later opens
 
 abbrev μ-loop : tie.MeasureT-loop
-μ-loop cost₀ choice₀ need late price opens slots size j₀ cost choice j = j
+μ-loop cost₀ choice₀ need late price opens tracks slots size j₀ later₀ cost choice j later = j
 
--- the function's arguments, seen from the outer loop and from the inner
-abbrev from : tie.At-loop Inv-loop2 μ-loop2 Inv-loop μ-loop → tie.Start Inv-loop2 μ-loop2 Inv-loop μ-loop
-from c = c .before .before .before .before .before .before .before .before .before .before .before
+-- the function's arguments, and what filling the last slot left, seen from the loop
+abbrev from : tie.At-loop Inv-loop μ-loop → tie.Start Inv-loop μ-loop
+from c = c .before .before .before .before .before .before .before .before .before .before .before .before .before .before .before
 
-abbrev from2 : tie.In-loop2 Inv-loop2 μ-loop2 Inv-loop μ-loop → tie.Start Inv-loop2 μ-loop2 Inv-loop μ-loop
-from2 c = from (c .before .before .before)
+abbrev filled : tie.At-loop Inv-loop μ-loop → tie.After-fill-last Inv-loop μ-loop
+filled c = c .before .before .before .before .before .before
 
--- inside both loops: the slot and the set exist, the workspaces are still as long, and the word that is written is one of theirs
-module _ (c : tie.In-loop2 Inv-loop2 μ-loop2 Inv-loop μ-loop) where
-  slot : c .before .before .before .loop .j - 1 < from2 c .args .slots
-  slot = omega (arith, c .before .before .before .loop .inv .within)
+-- the workspaces are still as long
+module _ (c : tie.At-loop Inv-loop μ-loop) where
+  costs : length (c .loop .cost) ≡ length (from c .args .cost .now)
+  costs = c .loop .inv .0 .kept .long ∙ filled c .fill-last .ensures .kept .long
 
-  set : c .before .loop2 .r - 1 < from2 c .args .size
-  set = omega (arith, c .before .loop2 .inv .within)
+  choices : length (c .loop .choice) ≡ length (from c .args .choice .now)
+  choices = c .loop .inv .0 .choices .kept .long ∙ filled c .fill-last .ensures .choices .kept .long
 
-  costs : from2 c .args .size ≤ length (c .before .loop2 .cost)
-  costs =
-      let o = c .before .before .before in
-      omega (arith, c .before .loop2 .inv .layer .kept .long, o .loop .inv .kept .long, o .before .before .before .ground .ensures .kept .long, from o .pre .1)
+fill-last-requires : tie.Need-fill-last-requires Inv-loop μ-loop
+fill-last-requires c κs = let s = c .before .before .before .before .before .before .before .before in (s .pre .0, s .pre .2, s .pre .3)
 
-  choices : from2 c .args .slots * from2 c .args .size ≤ length (c .before .loop2 .choice)
-  choices =
-      let o = c .before .before .before in
-      omega (arith, c .before .loop2 .inv .choices .kept .long, o .loop .inv .choices .kept .long, from o .pre .2)
+sub-j : tie.Need-sub-j Inv-loop μ-loop
+sub-j c = omega (arith, c .before .before .before .before .before .before .before .before .before .before .before .before .before .pre .0 .stages)
 
-  place : (c .before .before .before .loop .j - 1) * from2 c .args .size + (c .before .loop2 .r - 1) < from2 c .args .slots * from2 c .args .size
-  place = digits-lt slot set
+mul-later : tie.Need-mul-later Inv-loop μ-loop
+mul-later c = omega (arith, c .before .before .before .before .before .before .before .before .before .before .before .before .before .pre .0 .stages)
 
-  below : from2 c .args .slots * from2 c .args .size ≤ 32768
-  below = mul-le-mul (from2 c .pre .0 .short) (from2 c .pre .0 .few)
+shared-slice-read-later : tie.Need-shared-slice-read-later Inv-loop μ-loop
+shared-slice-read-later c = omega (arith, c .before .before .before .before .before .before .before .before .before .before .before .before .before .before .pre .0 .stages, c .before .before .before .before .before .before .before .before .before .before .before .before .before .before .pre .0 .opened)
 
-ground-requires : tie.Need-ground-requires Inv-loop2 μ-loop2 Inv-loop μ-loop
-ground-requires c κs = search needs
+loop-holds : tie.Need-loop-holds Inv-loop μ-loop
+loop-holds c =
+    let s = c .before .before .before .before .before .before .before .before .before .before .before .before .before .before in
+    (solved-here _ (solved-some (c .before .before .before .before .before .fill-last .ensures)) refl, later-last (s .args .slots) (s .args .opens .now) (s .args .slots - 1) (omega (arith, s .pre .0 .stages)))
 
-loop-holds : tie.Need-loop-holds Inv-loop2 μ-loop2 Inv-loop μ-loop
-loop-holds c = solved-start _ _ (c .before .before .ground .ensures) (omega arith)
+sub-j-2 : tie.Need-sub-j-2 Inv-loop μ-loop
+sub-j-2 c = omega arith
 
-sub-j : tie.Need-sub-j Inv-loop2 μ-loop2 Inv-loop μ-loop
-sub-j c = omega arith
+mul-later-2 : tie.Need-mul-later-2 Inv-loop μ-loop
+mul-later-2 c = omega (arith, c .before .loop .inv .0 .within, from (c .before) .pre .0 .stages)
 
-loop2-holds : tie.Need-loop2-holds Inv-loop2 μ-loop2 Inv-loop μ-loop
-loop2-holds c = stage-start _ (c .before .loop .inv) (omega arith)
+shared-slice-read-later-2 : tie.Need-shared-slice-read-later-2 Inv-loop μ-loop
+shared-slice-read-later-2 c = omega (arith, c .before .before .loop .inv .0 .within, from (c .before .before) .pre .0 .opened)
 
-loop-less : tie.Need-loop-less Inv-loop2 μ-loop2 Inv-loop μ-loop
+fill-slot-requires : tie.Need-fill-slot-requires Inv-loop μ-loop
+fill-slot-requires c κs =
+    let a = c .before .before .before .before in
+    let s = from a in (
+      s .pre .0,
+      s .pre .1,
+      later-next _ (a .loop .inv .1) (omega arith),
+      omega arith,
+      omega (arith, a .loop .inv .0 .within),
+      omega (arith, costs a, s .pre .2),
+      omega (arith, choices a, s .pre .3),
+      solved-here _ (a .loop .inv .0) (omega arith),
+    )
+
+loop-less : tie.Need-loop-less Inv-loop μ-loop
 loop-less c = omega arith
 
-loop-again : tie.Need-loop-again Inv-loop2 μ-loop2 Inv-loop μ-loop
-loop-again c = stage-end _ (c .before .before .before .loop .inv) (omega arith) (c .before .loop2 .inv) (omega arith)
+loop-again : tie.Need-loop-again Inv-loop μ-loop
+loop-again c =
+    let a = c .before .before .before .before .before .before .before .before .before in
+    (solved-then _ (a .loop .inv .0) (c .before .before .before .before .fill-slot .ensures) refl, later-next _ (a .loop .inv .1) (omega arith))
 
-sub-r : tie.Need-sub-r Inv-loop2 μ-loop2 Inv-loop μ-loop
-sub-r c = omega arith
+fill-first-requires : tie.Need-fill-first-requires Inv-loop μ-loop
+fill-first-requires c κs =
+    let a = c .before .before .before .before in
+    let s = from a in
+    (s .pre .0, s .pre .1, omega (arith, costs a, s .pre .2), omega (arith, choices a, s .pre .3), solved-here _ (a .loop .inv .0) (omega arith))
 
-cheapest-requires : tie.Need-cheapest-requires Inv-loop2 μ-loop2 Inv-loop μ-loop
-cheapest-requires c κs =
-    let g = from2 (c .before) .pre .0 in
-    let j = slot (c .before) in
-    let r = set (c .before) in
-    (given-less _ _ g (omega arith) (omega arith), stage-values g _ (c .before .before .loop2 .inv) j (costs (c .before)) (omega arith))
+same-length : tie.Need-same-length Inv-loop μ-loop
+same-length c = c .before .before .before .before .fill-first .ensures .kept .long ∙ costs (c .before .before .before .before .before .before .before .before .before)
 
-mul-cost : tie.Need-mul-cost Inv-loop2 μ-loop2 Inv-loop μ-loop
-mul-cost c = omega (arith, set (c .before .before), from2 (c .before .before) .pre .0 .few)
+same-length-2 : tie.Need-same-length-2 Inv-loop μ-loop
+same-length-2 c = c .before .before .before .before .fill-first .ensures .choices .kept .long ∙ choices (c .before .before .before .before .before .before .before .before .before)
 
-slice-write-cost : tie.Need-slice-write-cost Inv-loop2 μ-loop2 Inv-loop μ-loop
-slice-write-cost c = omega (arith, set (c .before .before), costs (c .before .before))
+returns : tie.Need-returns Inv-loop μ-loop
+returns c =
+    let a = c .before .before .before .before .before .before .before .before .before in
+    solved-then 0 (solved-some (filled a .fill-last .ensures)) (solved-then 0 (a .loop .inv .0) (c .before .before .before .before .fill-first .ensures) refl) refl
 
-mul-choice : tie.Need-mul-choice Inv-loop2 μ-loop2 Inv-loop μ-loop
-mul-choice c = omega (arith, place (c .before .before), below (c .before .before))
+same-length-3 : tie.Need-same-length-3 Inv-loop μ-loop
+same-length-3 c = costs (c .before .before)
 
-add-choice : tie.Need-add-choice Inv-loop2 μ-loop2 Inv-loop μ-loop
-add-choice c = omega (arith, place (c .before .before), below (c .before .before))
+same-length-4 : tie.Need-same-length-4 Inv-loop μ-loop
+same-length-4 c = choices (c .before .before)
 
-mul-choice-2 : tie.Need-mul-choice-2 Inv-loop2 μ-loop2 Inv-loop μ-loop
-mul-choice-2 c = omega (arith, place (c .before .before), below (c .before .before))
-
-slice-write-choice : tie.Need-slice-write-choice Inv-loop2 μ-loop2 Inv-loop μ-loop
-slice-write-choice c = omega (arith, place (c .before .before), choices (c .before .before))
-
-loop2-less : tie.Need-loop2-less Inv-loop2 μ-loop2 Inv-loop μ-loop
-loop2-less c = omega arith
-
-loop2-again : tie.Need-loop2-again Inv-loop2 μ-loop2 Inv-loop μ-loop
-loop2-again c =
-    let o = c .before .before in
-    stage-next _ _ _ _ (o .before .loop2 .inv) (omega arith) refl (slot o) (costs o) (choices o) (c .cheapest .ensures .0) (c .cheapest .ensures .1)
-
-same-length : tie.Need-same-length Inv-loop2 μ-loop2 Inv-loop μ-loop
-same-length c = c .before .loop .inv .kept .long ∙ c .before .before .before .before .ground .ensures .kept .long
-
-same-length-2 : tie.Need-same-length-2 Inv-loop2 μ-loop2 Inv-loop μ-loop
-same-length-2 c = c .before .loop .inv .choices .kept .long
-
-returns : tie.Need-returns Inv-loop2 μ-loop2 Inv-loop μ-loop
-returns c = solved-since 0 _ (c .before .loop .inv) (omega arith) (c .before .before .before .before .ground .ensures .kept)
+returns-2 : tie.Need-returns-2 Inv-loop μ-loop
+returns-2 c = solved-then 0 (solved-some (filled (c .before .before) .fill-last .ensures)) (c .before .before .loop .inv .0) (omega arith)
 
 pub solve-spec : {M : Type 1} → statement M
 solve-spec =
     tie.close
     (tie.spec
-    Inv-loop2
-    μ-loop2
     Inv-loop
     μ-loop
-    ground-requires
-    loop-holds
+    fill-last-requires
     sub-j
-    loop2-holds
+    mul-later
+    shared-slice-read-later
+    loop-holds
+    sub-j-2
+    mul-later-2
+    shared-slice-read-later-2
+    fill-slot-requires
     loop-less
     loop-again
-    sub-r
-    cheapest-requires
-    mul-cost
-    slice-write-cost
-    mul-choice
-    add-choice
-    mul-choice-2
-    slice-write-choice
-    loop2-less
-    loop2-again
+    fill-first-requires
     same-length
     same-length-2
-    returns)
+    returns
+    same-length-3
+    same-length-4
+    returns-2)

@@ -28,9 +28,6 @@ shared-slice-read-if1 c = search needs
 shared-slice-read-if1-2 : tie.Need-shared-slice-read-if1-2 Inv-loop μ-loop
 shared-slice-read-if1-2 c = search needs
 
-cast-mask : tie.Need-cast-mask Inv-loop μ-loop
-cast-mask c = search needs
-
 shl-mask : tie.Need-shl-mask Inv-loop μ-loop
 shl-mask c = search needs
 
@@ -45,7 +42,7 @@ unfolding openIn
 loop-again c =
     let b = c .before .before .before .before in
     ⊎-elim
-    (λ w. (search needs, w .1 ∙ ap (λ m. bitOr m (1 * 2 ^ b .loop .i % 2 ^ 16)) (b .loop .inv .1) ∙ mask-set 16 (b .loop .i) _ (omega arith) (w .0 .taken)))
+    (λ w. (search needs, w .1 ∙ ap (λ m. bitOr m (1 * 2 ^ b .loop .i % 2 ^ 64)) (b .loop .inv .1) ∙ mask-set 64 (b .loop .i) _ (omega arith) (w .0 .taken)))
     (λ w. (search needs, w .1 ∙ b .loop .inv .1 ∙ mask-pass (b .loop .i) _ (w .0 .left)))
     (c .if1 .came)
 
@@ -63,7 +60,6 @@ open-in-spec =
     loop-holds
     shared-slice-read-if1
     shared-slice-read-if1-2
-    cast-mask
     shl-mask
     add-i
     loop-less
