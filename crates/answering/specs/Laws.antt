@@ -2,25 +2,25 @@
 -- the answer to a text from what reading has.
 -- Assumes nothing.
 use mathlib.Core.Path.{_≡_, refl, sym, ap, _∙_}
-use mathlib.Core.Bool.{true, false, cond, _&&_}
+use mathlib.Core.Bool.{cond, _&&_}
 use mathlib.Core.List.{List, [], _∷_, _++_}
 use mathlib.Core.Option.{Option, none, some}
-use Prim.Native.Nat.{ℕ, _+_, _*_, _^_, _≤_, _<_, zero-le}
+use Prim.Native.Nat.{ℕ, _+_, _^_, _≤_, zero-le}
 use native.Mathlib.Nat.{mul-le-mul}
 use native.Mathlib.Omega.{arith}
 use lib.Dec.{T, eqb, leb, le→leb}
 use lib.ListN.{length, getD, drop, length-append, List·getD-append}
 use lib.Pow.{pow-mono}
-use borrow.Author.Tests.{eq-eqb, ne-eqb}
+use borrow.Author.Tests.{ne-eqb}
 use Rattle.fold.specs.Test.{both}
-use Rattle.fold.specs.Listed.{listed, listed-ext}
+use Rattle.fold.specs.Listed.{listed-ext}
 use Rattle.model.specs.Model.{Yard, Outcome, outcome}
 use Rattle.model.specs.BestOf.{bestOf, is-best}
 use Rattle.model.specs.Rows.{allowed-is}
-use Rattle.day.specs.Answer.{Answer, gives, refuses, number, carried}
-use Rattle.day.specs.Numbers.{Tells, values, carried-values}
+use Rattle.day.specs.Answer.{gives, refuses, number, carried}
+use Rattle.day.specs.Numbers.{Tells, carried-values}
 use Rattle.day.specs.Sound.{dayLimits, Range, range, sound}
-use Rattle.day.specs.SoundLaws.{Within, sound-is}
+use Rattle.day.specs.SoundLaws.{sound-is}
 use Rattle.day.specs.declared.Limits.{Limits}
 use Rattle.day.specs.declared.Numbered.{Numbered}
 use Rattle.day.specs.declared.Refusal.{Refusal}
@@ -28,7 +28,7 @@ use Rattle.lines.specs.Lines.{rowText, rowsText}
 use Rattle.lines.specs.RowSize.{mostInRow, digits-most, row-size}
 use Rattle.dayfile.specs.Reading.{readDay}
 use Rattle.planning.specs.Planning.{begins, suffices, costWords, choiceWords, bestAnswer, placed}
-use Rattle.planfile.specs.PlanText.{valueNames, slotNames, slotRow, planLines, planText}
+use Rattle.planfile.specs.PlanText.{valueNames, slotNames, slotRow, planLines}
 use Rattle.planfile.specs.Size.{plan-size, plan-most}
 use Rattle.answering.specs.Answering.{lineNames, intervalNames, refusalText, dayReply, reply, answerText}
 

@@ -13,7 +13,7 @@ use borrow.Author.Tests.{eq-eqb}
 use Rattle.fold.specs.Fold.{sum}
 use Rattle.fold.specs.Sums.{sum-bound}
 use Rattle.fold.specs.Counting.{count-bound}
-use Rattle.model.specs.Model.{Yard, received, slotOf, revisiting, revisits, splitBoxes, splitsTo, splits, weighed, Outcome, outcome, cost}
+use Rattle.model.specs.Model.{Yard, received, slotOf, revisiting, revisits, splitBoxes, splitsTo, splits, weighed, outcome, cost}
 use Rattle.day.specs.Sound.{dayLimits, sound}
 use Rattle.day.specs.SoundLaws.{Sound, sound-is}
 use Rattle.day.specs.declared.Limits.{Limits}

@@ -12,7 +12,7 @@ use borrow.Author.Tests.{lt-ltb, eq-eqb}
 use Rattle.fold.specs.Test.{of-true, both, both-of}
 use Rattle.fold.specs.Fold.{each, each-at}
 use Rattle.model.specs.Model.{Yard, received, firstSlot, lastSlot}
-use Rattle.day.specs.Sound.{Range, range, between, within, headRanges, trainRanges, headRow, trainRow, numberBefore, trainSound, unused, positionSound, pairSound, receiverSound, shaped, sound}
+use Rattle.day.specs.Sound.{Range, between, within, headRanges, trainRanges, headRow, trainRow, numberBefore, trainSound, unused, positionSound, pairSound, receiverSound, shaped, sound}
 use Rattle.day.specs.declared.Limits.{Limits}
 
 -- ---- ranges

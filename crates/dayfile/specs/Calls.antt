@@ -1,15 +1,12 @@
 -- What the two calls on day files answer, for any text, any record and any output, and the round trips at their level: what writing
 -- leaves in a long enough output reads back as the day, and what reading accepts is written as the same bytes.
 -- Assumes nothing.
-use mathlib.Core.Path.{_≡_, refl, sym, ap, ap₂, _∙_, subst}
-use mathlib.Core.Bool.{Bool, true, false, cond, _&&_}
-use mathlib.Core.List.{List, [], _∷_, _++_}
+use mathlib.Core.Path.{_≡_, ap, _∙_}
+use mathlib.Core.List.{List, [], _∷_}
 use Prim.Native.Nat.{ℕ, _*_, _≤_}
 use native.Mathlib.Omega.{arith}
-use lib.Dec.{T, leb, le→leb}
-use lib.ListN.{length, take, drop, replicate}
-use lib.Seq.{take-append-seam}
-use Rattle.fold.specs.Test.{is-true, both}
+use lib.Dec.{T}
+use lib.ListN.{length, take, replicate}
 use Rattle.model.specs.Model.{Yard}
 use Rattle.day.specs.Answer.{Answer, gives, refuses, Check, must}
 use Rattle.day.specs.Sound.{sound}

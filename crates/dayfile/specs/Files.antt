@@ -1,9 +1,8 @@
 -- Rows and text: the text of a file's rows reads to those rows where they keep the rules (file-written), and a text that is accepted is
 -- the text of rows that keep them (file-read).
 -- Assumes nothing.
-use mathlib.Core.Path.{_≡_, refl, sym, ap, _∙_, subst}
-use mathlib.Core.Bool.{Bool, true, false, cond}
-use mathlib.Core.List.{List, [], _∷_, _++_, append-assoc, append-nil}
+use mathlib.Core.Path.{_≡_, refl, sym, ap, _∙_}
+use mathlib.Core.List.{List, [], _∷_, _++_, append-assoc}
 use Prim.Native.Nat.{ℕ, zero, suc, _+_, _≤_}
 use native.Mathlib.Nat.{le-trans}
 use native.Mathlib.Omega.{arith}
@@ -14,10 +13,10 @@ use Rattle.day.specs.AnswerLaws.{AllHold, checked-holds, checked-gives}
 use Rattle.day.specs.Sound.{Range, within, headRanges, trainRanges, moveRanges}
 use Rattle.day.specs.SoundLaws.{Within, within-is}
 use Rattle.day.specs.declared.Limits.{Limits}
-use Rattle.decimal.specs.Parsed.{Parsed, fail, got, no-fail}
+use Rattle.decimal.specs.Parsed.{Parsed, fail, got}
 use Rattle.decimal.specs.Decimal.{value}
 use Rattle.lines.specs.Lines.{field, names, row, rowText, rowsText}
-use Rattle.lines.specs.Laws.{names-written, names-read, Small, row-written, RowRead, row-read}
+use Rattle.lines.specs.Laws.{names-written, names-read, Small, row-written, row-read}
 use Rattle.dayfile.specs.Reading.{headNames, trainNames, moveNames, field1, headChecks, trainChecks, moveChecks, onward, orRefuse, readNames, RowRest, readRow, Rows, addRow, readTrains, readMoves, headSection, trainSection, moveSection, File, numbersOf, readFile}
 use Rattle.dayfile.specs.Writing.{fileText}
 

@@ -2,29 +2,26 @@
 -- a sound day that has just these rows.
 -- Assumes nothing.
 use mathlib.Core.Path.{_≡_, refl, sym, ap, ap₂, _∙_, subst}
-use mathlib.Core.Bool.{Bool, true, false, not, cond, _&&_, _||_}
-use mathlib.Core.List.{List, [], _∷_, _++_, map}
+use mathlib.Core.Bool.{Bool, true, false, not, cond, _&&_}
+use mathlib.Core.List.{List, [], _∷_}
 use mathlib.Core.Logic.{_⊎_, inl, inr, ⊎-elim, _≢_}
 use Prim.Native.Nat.{ℕ, zero, suc, _+_, _-_, _*_, _/_, _%_, _≤_, _<_}
-use native.Mathlib.Nat.{le-trans, le-refl, add-suc, suc-add, add-zero, zero-add, div-add-mod', div-lt-iff-lt-mul, mod-lt}
+use native.Mathlib.Nat.{add-suc, suc-add, zero-add, div-add-mod', div-lt-iff-lt-mul, mod-lt}
 use native.Mathlib.Omega.{arith}
 use lib.Arith.{digits-div, digits-mod, digits-lt}
 use lib.Dec.{T, ltb, leb, eqb, ltb→lt, lt→ltb, leb→le, le→leb, eqb→eq, not-T}
-use lib.ListN.{length, getD, replicate, length-map, length-replicate}
+use lib.ListN.{length, getD, replicate}
 use borrow.Author.Tests.{eq-eqb, ne-eqb, lt-ltb}
-use Rattle.fold.specs.Test.{is-true, of-true, of-false, both, both-of, left, not-of}
-use Rattle.fold.specs.Fold.{each, each-at, each-i}
-use Rattle.fold.specs.Counting.{le-or-lt, same-or}
-use Rattle.fold.specs.Listed.{listed, length-listed, listed-at, listed-all, listed-ext, joined, joined-cons, joined-ext}
-use Rattle.model.specs.Model.{Yard, cell}
-use Rattle.day.specs.AnswerLaws.{AllHold}
-use Rattle.day.specs.Sound.{within, moveRanges, trainRow, pairSound}
+use Rattle.fold.specs.Test.{of-true, both, both-of, left, not-of}
+use Rattle.fold.specs.Counting.{same-or}
+use Rattle.fold.specs.Listed.{joined, joined-cons}
+use Rattle.day.specs.Sound.{within, moveRanges, pairSound}
 use Rattle.day.specs.SoundLaws.{within-is}
 use Rattle.day.specs.declared.Limits.{Limits}
-use Rattle.dayfile.specs.Reading.{field1, field2, field3, position, isListed, pairAfter, moveChecks, placeOf, stored}
+use Rattle.dayfile.specs.Reading.{field1, field2, field3, position, isListed, pairAfter, placeOf, stored}
 use Rattle.dayfile.specs.Writing.{moveRow, moveRows}
 use Rattle.dayfile.specs.Files.{FineMoves}
-use Rattle.dayfile.specs.Trains.{Rising, three-fields}
+use Rattle.dayfile.specs.Trains.{Rising}
 use Rattle.dayfile.specs.Places.{Listed, number-there, position-there, place-inside, place-row, after-place, place-after}
 use Rattle.dayfile.specs.Moves.{At, Placed, amount, Entries, table-at}
 

@@ -2,18 +2,18 @@
 -- and a table is the one that its moves make.
 -- Assumes nothing.
 use mathlib.Core.Path.{_≡_, refl, sym, ap, ap₂, _∙_, subst}
-use mathlib.Core.Bool.{Bool, true, false, cond}
+use mathlib.Core.Bool.{cond}
 use mathlib.Core.List.{List, [], _∷_, _++_}
 use mathlib.Core.Logic.{_⊎_, inl, inr, ⊎-elim, _≢_}
 use Prim.Native.Nat.{ℕ, zero, suc, _+_, _-_, _*_, _≤_, _<_}
-use native.Mathlib.Nat.{le-of-suc-le-suc, le-trans, add-zero, zero-add, add-suc, suc-add}
+use native.Mathlib.Nat.{le-trans, add-zero, zero-add, add-suc, suc-add}
 use native.Mathlib.Omega.{arith}
 use lib.Dec.{eqb}
 use lib.ListN.{length, getD, set, replicate, length-set, length-replicate, getD-replicate}
 use lib.Seq.{getD-set-same, getD-set-other, ext-getD}
 use borrow.Author.Tests.{eq-eqb, ne-eqb}
 use Rattle.fold.specs.Counting.{le-or-lt, same-or}
-use Rattle.fold.specs.Listed.{joined, joined-cons, joined-ext}
+use Rattle.fold.specs.Listed.{joined, joined-cons}
 use Rattle.dayfile.specs.Reading.{field3, placeOf, stored}
 use Rattle.dayfile.specs.Writing.{moveRow, moveRows}
 

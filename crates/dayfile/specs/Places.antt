@@ -1,23 +1,21 @@
 -- Moves by their places in the table of boxes: of listed numbers that rise, pairs come in the order of their places; moves whose places
 -- rise and the table that they are stored in determine each other.
 -- Assumes nothing.
-use mathlib.Core.Path.{_≡_, refl, sym, ap, ap₂, _∙_, subst}
-use mathlib.Core.Bool.{Bool, true, false, not, cond, _&&_, _||_}
-use mathlib.Core.List.{List, [], _∷_, _++_}
-use mathlib.Core.Logic.{_⊎_, inl, inr, ⊎-elim}
-use Prim.Native.Nat.{ℕ, zero, suc, _+_, _-_, _*_, _/_, _%_, _≤_, _<_}
-use native.Mathlib.Nat.{le-of-suc-le-suc, eq-or-lt-of-le, le-trans, add-suc, add-zero, suc-add, mul-le-mul-right, suc-mul}
+use mathlib.Core.Path.{_≡_, refl, sym, ap, _∙_}
+use mathlib.Core.Bool.{_&&_}
+use mathlib.Core.List.{List}
+use mathlib.Core.Logic.{_⊎_, ⊎-elim}
+use Prim.Native.Nat.{ℕ, suc, _+_, _-_, _*_, _≤_, _<_}
+use native.Mathlib.Nat.{eq-or-lt-of-le, mul-le-mul-right, suc-mul}
 use native.Mathlib.Omega.{arith}
 use lib.Arith.{digits-lt, digits-div, digits-mod}
-use lib.Dec.{T, ltb, leb, eqb, ltb→lt, lt→ltb, eqb→eq}
-use lib.ListN.{length, getD, set, length-set}
-use lib.Seq.{getD-set-same, getD-set-other}
-use borrow.Author.Tests.{eq-eqb, ne-eqb, lt-ltb}
-use Rattle.fold.specs.Test.{is-true, is-false, of-true, both, both-of, left, right, either-of, not-of}
-use Rattle.fold.specs.Fold.{lowest, lowest-found, lowest-passes, none-i}
-use Rattle.fold.specs.Counting.{le-or-lt, same-or}
-use Rattle.fold.specs.Listed.{joined, joined-cons}
-use Rattle.dayfile.specs.Reading.{field1, field2, field3, position, isListed, pairAfter, placeOf, stored}
+use lib.Dec.{T, ltb, eqb, ltb→lt, lt→ltb, eqb→eq}
+use lib.ListN.{length, getD}
+use borrow.Author.Tests.{eq-eqb}
+use Rattle.fold.specs.Test.{of-true, both, both-of, left, right, either-of}
+use Rattle.fold.specs.Fold.{lowest-found, lowest-passes, none-i}
+use Rattle.fold.specs.Counting.{le-or-lt}
+use Rattle.dayfile.specs.Reading.{field1, field2, field3, position, pairAfter, placeOf}
 use Rattle.dayfile.specs.Writing.{moveRow}
 use Rattle.dayfile.specs.Trains.{three-fields, Rising}
 

@@ -2,7 +2,7 @@
 -- one that breaks a rule decides; in one line its form (1 or 2), then the limits (3), then the other conditions in number order.
 -- Over any limits, so that longer days have the same form.
 -- Assumes nothing.
-use mathlib.Core.Bool.{Bool, not, cond, _&&_, _||_}
+use mathlib.Core.Bool.{Bool, not, _&&_, _||_}
 use mathlib.Core.List.{List, [], _∷_, _++_, map}
 use Prim.Native.Nat.{ℕ, zero, suc, _+_, _-_, _*_}
 use lib.Dec.{leb, ltb, eqb}

@@ -5,26 +5,26 @@
 -- So a record is sound exactly where some text reads to it.
 -- Assumes nothing.
 use mathlib.Core.Path.{_≡_, refl, sym, ap, ap₂, _∙_, subst}
-use mathlib.Core.Bool.{Bool, true, cond, _&&_}
+use mathlib.Core.Bool.{cond, _&&_}
 use mathlib.Core.List.{List, [], _∷_, _++_, map}
 use mathlib.Core.Logic.{_↔_}
-use Prim.Native.Nat.{ℕ, zero, suc, _-_, _*_, _/_, _%_, _≤_, _<_}
+use Prim.Native.Nat.{ℕ, _-_, _*_, _/_, _%_, _≤_, _<_}
 use native.Mathlib.Nat.{le-trans}
 use native.Mathlib.Omega.{arith}
-use lib.Dec.{T, ltb, eqb, eqb→eq}
+use lib.Dec.{T, eqb, eqb→eq}
 use lib.ListN.{length, getD, replicate, length-map, length-replicate}
 use borrow.Author.Tests.{le-ltb}
 use Rattle.fold.specs.Test.{both-of}
-use Rattle.fold.specs.Fold.{each, each-at, each-i}
-use Rattle.fold.specs.Listed.{listed, length-listed, listed-at, listed-all, listed-ext, joined, joined-ext}
+use Rattle.fold.specs.Fold.{each-at, each-i}
+use Rattle.fold.specs.Listed.{listed, length-listed, listed-all, listed-ext, joined, joined-ext}
 use Rattle.model.specs.Model.{Yard}
 use Rattle.day.specs.Answer.{Answer, gives}
-use Rattle.day.specs.Sound.{within, headRanges, trainRanges, headRow, trainRow, trainSound, unused, positionSound, pairSound, receiverSound, shaped, sound}
+use Rattle.day.specs.Sound.{headRanges, trainRanges, trainRow, trainSound, unused, positionSound, pairSound, receiverSound, sound}
 use Rattle.day.specs.SoundLaws.{Within, within-is, Shaped, Sound, sound-tests, tests-sound, shaped-is, is-shaped, train-tests, sound-is}
 use Rattle.day.specs.declared.Limits.{Limits}
 use Rattle.dayfile.specs.Reading.{field1, field2, field3, onward, File, numbersOf, readFile, padded, stored, dayOf, readDay}
-use Rattle.dayfile.specs.Writing.{fileText, moveRow, moveRows, fileOf, dayText}
-use Rattle.dayfile.specs.Files.{Short, FineTrains, FineMoves, Fine, FileRead, file-written, file-read, onward-gives}
+use Rattle.dayfile.specs.Writing.{fileText, moveRows, fileOf, dayText}
+use Rattle.dayfile.specs.Files.{Short, FineTrains, FineMoves, Fine, file-written, file-read, onward-gives}
 use Rattle.dayfile.specs.Trains.{padded-at, length-padded, trains-at, Rising, rising, train-row, positions-sound, rows-fine, column-back}
 use Rattle.dayfile.specs.Moves.{length-stored, moves-back, table-back}
 use Rattle.dayfile.specs.Fine.{fine-placed, pairs-sound, table-fine, table-entries}

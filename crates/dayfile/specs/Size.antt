@@ -4,8 +4,8 @@
 use mathlib.Core.Path.{_≡_, refl, ap, subst}
 use mathlib.Core.Bool.{Bool, true, false, not, cond, _&&_}
 use mathlib.Core.List.{List, [], _∷_}
-use Prim.Native.Nat.{ℕ, zero, suc, _+_, _-_, _*_, _/_, _≤_, _<_}
-use native.Mathlib.Nat.{le-refl, add-zero, add-suc, suc-mul, mul-comm, mul-le-mul-right}
+use Prim.Native.Nat.{ℕ, zero, suc, _+_, _-_, _*_, _≤_, _<_}
+use native.Mathlib.Nat.{add-zero, add-suc, suc-mul, mul-comm, mul-le-mul-right}
 use native.Mathlib.Omega.{arith}
 use lib.Dec.{T, ltb, leb, eqb, eqb→eq}
 use lib.ListN.{length, getD, length-append}
@@ -15,10 +15,10 @@ use Rattle.fold.specs.Fold.{each-at}
 use Rattle.fold.specs.Listed.{joined}
 use Rattle.model.specs.Model.{Yard, cell}
 use Rattle.day.specs.Answer.{gives}
-use Rattle.day.specs.Sound.{dayLimits, Range, headRanges, trainRanges, moveRanges, headRow, receiverSound, pairSound, sound}
-use Rattle.day.specs.SoundLaws.{Within, within-is, shaped-is, sound-tests, sound-is}
+use Rattle.day.specs.Sound.{dayLimits, headRanges, trainRanges, moveRanges, headRow, receiverSound, pairSound, sound}
+use Rattle.day.specs.SoundLaws.{within-is, shaped-is, sound-tests, sound-is}
 use Rattle.day.specs.declared.Limits.{Limits}
-use Rattle.decimal.specs.Decimal.{digitsWithin, digits}
+use Rattle.decimal.specs.Decimal.{digitsWithin}
 use Rattle.lines.specs.Lines.{rowText, rowsText}
 use Rattle.lines.specs.RowSize.{mostInRow, digits-rise, row-size}
 use Rattle.dayfile.specs.Reading.{headNames, trainNames, moveNames, field1, numbersOf, File, readDay}

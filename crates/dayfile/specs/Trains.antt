@@ -1,21 +1,20 @@
 -- The trains of a file and of a day: rows that keep the rules make sound positions, and sound positions give such rows; the rows and
 -- the three lists of the record determine each other.
 -- Assumes nothing.
-use mathlib.Core.Path.{_≡_, refl, sym, ap, ap₂, _∙_, subst}
-use mathlib.Core.Bool.{Bool, true, false, cond, _&&_}
+use mathlib.Core.Path.{_≡_, refl, sym, ap, _∙_, subst}
+use mathlib.Core.Bool.{cond, _&&_}
 use mathlib.Core.List.{List, [], _∷_, _++_, map}
-use mathlib.Core.Logic.{_⊎_, inl, inr, ⊎-elim}
-use Prim.Native.Nat.{ℕ, zero, suc, _+_, _-_, _*_, _≤_, _<_}
-use native.Mathlib.Nat.{le-of-suc-le-suc, eq-or-lt-of-le, le-trans}
+use mathlib.Core.Logic.{_⊎_, ⊎-elim}
+use Prim.Native.Nat.{ℕ, zero, suc, _+_, _-_, _≤_, _<_}
+use native.Mathlib.Nat.{le-of-suc-le-suc, eq-or-lt-of-le}
 use native.Mathlib.Omega.{arith}
-use lib.Dec.{T, ltb, leb, eqb, ltb→lt, lt→ltb, leb→le, le→leb, eqb→eq}
+use lib.Dec.{T, ltb, leb, ltb→lt}
 use lib.ListN.{length, getD, replicate, length-append, length-replicate, length-map, List·getD-map, List·getD-eq-default}
 use lib.Seq.{ext-getD}
-use borrow.Author.Tests.{lt-ltb, le-ltb, eq-eqb}
-use Rattle.fold.specs.Test.{of-true, both, both-of}
-use Rattle.fold.specs.Fold.{each, each-at, each-i}
+use borrow.Author.Tests.{lt-ltb, le-ltb}
+use Rattle.fold.specs.Test.{both, both-of}
 use Rattle.fold.specs.Counting.{le-or-lt}
-use Rattle.fold.specs.Listed.{listed, length-listed, listed-at, listed-all, listed-ext}
+use Rattle.fold.specs.Listed.{listed, length-listed, listed-at}
 use Rattle.day.specs.AnswerLaws.{AllHold}
 use Rattle.day.specs.Sound.{within, trainRanges, trainRow, numberBefore, trainSound, unused, positionSound}
 use Rattle.day.specs.declared.Limits.{Limits}

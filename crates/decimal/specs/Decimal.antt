@@ -1,7 +1,7 @@
 -- Values in decimal (01: one to five digits, without leading zeros, 0 itself is `0`): how one is written, and how one is read from
 -- the front of a text.
 -- Assumes nothing.
-use mathlib.Core.Bool.{Bool, true, false, cond, _&&_}
+use mathlib.Core.Bool.{Bool, cond, _&&_}
 use mathlib.Core.List.{List, [], _∷_, _++_}
 use Prim.Native.Nat.{ℕ, zero, suc, _+_, _-_, _*_, _/_, _%_}
 use lib.Dec.{ltb, leb}

@@ -1,17 +1,17 @@
 -- Writing and reading a value undo each other: what is written is read, and what was read is what is written.
 -- Assumes nothing.
-use mathlib.Core.Path.{_≡_, refl, sym, ap, _∙_}
-use mathlib.Core.Bool.{Bool, true, false, not, cond, _&&_}
+use mathlib.Core.Path.{_≡_, refl, ap, _∙_}
+use mathlib.Core.Bool.{Bool, true, false, cond}
 use mathlib.Core.List.{List, [], _∷_, _++_, append-assoc}
 use mathlib.Core.Logic.{⊎-elim}
 use Prim.Native.Nat.{ℕ, zero, suc, _+_, _-_, _*_, _/_, _%_, _≤_, _<_}
 use native.Mathlib.Omega.{arith}
-use lib.Dec.{T, ltb, leb, leb→le, le→leb}
+use lib.Dec.{leb, leb→le, le→leb}
 use lib.ListN.{length, length-append}
 use borrow.Author.Tests.{lt-ltb, le-ltb}
-use Rattle.fold.specs.Test.{is-true, of-true, is-false, both, both-of, not-of}
+use Rattle.fold.specs.Test.{is-true, of-true, both, both-of}
 use Rattle.fold.specs.Counting.{le-or-lt}
-use Rattle.decimal.specs.Parsed.{Parsed, fail, got, no-fail}
+use Rattle.decimal.specs.Parsed.{fail, got, no-fail}
 use Rattle.decimal.specs.Decimal.{isDigit, grows, more, value, digitsWithin, digits}
 
 -- ---- the digits of a number

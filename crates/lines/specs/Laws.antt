@@ -8,9 +8,9 @@ use native.Mathlib.Omega.{arith}
 use lib.Dec.{eqb}
 use lib.ListN.{length}
 use borrow.Author.Tests.{eq-eqb, eqb-true}
-use Rattle.decimal.specs.Parsed.{Parsed, fail, got, andThen, no-fail, taken}
+use Rattle.decimal.specs.Parsed.{fail, got, no-fail, taken}
 use Rattle.decimal.specs.Decimal.{isDigit, value, digits}
-use Rattle.decimal.specs.Laws.{Written, value-written, value-read}
+use Rattle.decimal.specs.Laws.{value-written, value-read}
 use Rattle.lines.specs.Lines.{byte, names, field, row, fieldText, rowText}
 
 -- ---- bytes and names lines

@@ -1,7 +1,7 @@
 -- The lines of a file: names lines, and rows of values, parted by one space and ended by one byte 10; how each is read from the front
 -- of a text, and how a row is written.
 -- Assumes nothing.
-use mathlib.Core.Bool.{Bool, true, false, cond}
+use mathlib.Core.Bool.{cond}
 use mathlib.Core.List.{List, [], _∷_, _++_}
 use Prim.Native.Nat.{ℕ, zero, suc}
 use Prim.Native.String.{String, [] as none, _∷_ as _then_}

@@ -1,18 +1,13 @@
 -- The line reader at a place of a text: what the byte there does.
 -- Assumes nothing.
 use mathlib.Core.Path.{_≡_}
-use mathlib.Core.List.{List, [], _∷_}
+use mathlib.Core.List.{List}
 use Prim.Native.Nat.{ℕ, _+_, _≤_, _<_}
-use native.Mathlib.Nat.{add-assoc, le-antisymm}
-use native.Mathlib.Numerals.{add-one}
-use lib.ListN.{length, getD, set, take, drop, length-append}
-use lib.Seq.{take-suc, take-length}
+use lib.ListN.{length, getD, drop}
 use borrow.Author.Tests.{eq-eqb, ne-eqb}
 use Rattle.decimal.specs.Parsed.{fail, got, andThen}
-use Rattle.decimal.specs.Decimal.{digits}
-use Rattle.decimal.specs.Place.{Put}
-use Rattle.decimal.specs.PlaceLaws.{at-end, here, put-text, put-byte}
-use Rattle.lines.specs.Lines.{byte, names, row, fieldText, rowText}
+use Rattle.decimal.specs.PlaceLaws.{at-end, here}
+use Rattle.lines.specs.Lines.{byte, names, row}
 use Rattle.lines.specs.Reader.{rowFound, found}
 use Rattle.lines.specs.declared.Due.the-variants.{RowOrEnd}
 

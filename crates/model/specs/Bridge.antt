@@ -18,7 +18,7 @@ use Rattle.fold.specs.Fold.{bit, sum, count, some-at, some-of}
 use Rattle.fold.specs.Sums.{sum-ext, sum-le, sum-only, sum-one}
 use Rattle.fold.specs.Listed.{listed, length-listed, listed-at}
 use Rattle.fold.specs.Counting.{same-or, le-or-lt, bit-le}
-use Rattle.model.specs.Model.{Yard, received, firstSlot, lastSlot, slotOf, lateSupplier, revisiting, revisits, splitBoxes, splitsTo, splits, weighed, cost, load, allowed, Best}
+use Rattle.model.specs.Model.{Yard, received, slotOf, lateSupplier, revisiting, revisits, splitBoxes, splitsTo, splits, weighed, cost, load, allowed, Best}
 use Rattle.model.specs.Program.{bigM, slotIn, distance, Supplies, Feasible, objective, chosen, leastY, leastZ}
 use Rattle.model.specs.Rows.{Allowed, allowed-is, is-allowed}
 

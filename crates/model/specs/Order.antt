@@ -1,7 +1,7 @@
 -- Orders given by a test, "the first comes before the second": what makes one, how a key goes before an order, and the best of a list.
 -- Nothing here knows of trains or rows.
 -- Assumes nothing.
-use mathlib.Core.Path.{_≡_, refl, sym, ap, _∙_, subst}
+use mathlib.Core.Path.{_≡_, refl, sym, subst}
 use mathlib.Core.Bool.{Bool, true, false, cond, _&&_, _||_}
 use mathlib.Core.Logic.{_⊎_, inl, inr, ⊎-elim}
 use mathlib.Core.Option.{Option, none, some}
@@ -11,10 +11,10 @@ use native.Mathlib.Nat.{le-antisymm, le-of-suc-le-suc, not-suc-le-zero}
 use native.Mathlib.Omega.{arith}
 use lib.Dec.{T, ltb, eqb, ltb→lt, lt→ltb, eqb→eq}
 use borrow.Author.Tests.{eq-eqb}
-use Rattle.fold.specs.Test.{of-true, of-false, is-false, test, same-test, both, both-of, left, right, either-of}
+use Rattle.fold.specs.Test.{of-true, of-false, same-test, both, both-of, left, right, either-of}
 use Rattle.fold.specs.Counting.{le-or-lt}
 use Rattle.fold.specs.Fold
-use Rattle.fold.specs.Fold.{each, each-at, each-i, some-at, some-of, below-suc}
+use Rattle.fold.specs.Fold.{each, each-at, each-i, some-at, some-of}
 use Rattle.model.specs.Model.{lower}
 
 -- of two values not both come before the other, and not coming before is transitive

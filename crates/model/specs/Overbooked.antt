@@ -1,14 +1,14 @@
 -- The first overbooked interval of a day as a function (01: of all overbooked stretches the smallest first slot, and for it the
 -- smallest last slot), and that it names just that one.
 -- Assumes nothing.
-use mathlib.Core.Path.{_≡_, refl, sym, ap, _∙_, subst}
+use mathlib.Core.Path.{_≡_, refl, sym, subst}
 use mathlib.Core.Bool.{Bool, true, false, cond, _&&_}
 use mathlib.Core.Logic.{⊎-elim}
 use mathlib.Core.Option.{Option, none, some}
-use Prim.Native.Nat.{ℕ, zero, suc, _+_, _≤_, _<_}
+use Prim.Native.Nat.{ℕ, zero, suc, _≤_, _<_}
 use native.Mathlib.Nat.{le-antisymm, le-of-suc-le-suc}
 use native.Mathlib.Omega.{arith}
-use lib.Dec.{T, ltb, leb, leb→le}
+use lib.Dec.{T, leb, leb→le}
 use borrow.Author.Tests.{leb-true, leb-false}
 use Rattle.fold.specs.Test.{both-of}
 use Rattle.fold.specs.Counting.{le-or-lt}

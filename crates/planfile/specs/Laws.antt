@@ -4,9 +4,9 @@ use mathlib.Core.Path.{_≡_, ap, _∙_}
 use mathlib.Core.List.{List, _++_, append-assoc}
 use Prim.Native.Nat.{ℕ, _+_}
 use lib.ListN.{length, length-append}
-use Rattle.fold.specs.Listed.{listed, joined}
+use Rattle.fold.specs.Listed.{joined}
 use Rattle.model.specs.Model.{Outcome}
-use Rattle.lines.specs.Lines.{rowText, rowsText}
+use Rattle.lines.specs.Lines.{rowText}
 use Rattle.output.specs.Laws.{rows-listed}
 use Rattle.planfile.specs.PlanText.{valueNames, slotNames, valueRow, slotRow, planLines}
 

@@ -2,17 +2,17 @@
 -- of document 01 these are no more than 124. Stated over any limits: others only change the number.
 -- Assumes nothing.
 use mathlib.Core.Path.{_≡_, refl}
-use mathlib.Core.List.{List, [], _∷_, _++_}
+use mathlib.Core.List.{List, [], _∷_}
 use Prim.Native.Nat.{ℕ, zero, suc, _+_, _*_, _≤_, _<_, zero-le}
 use native.Mathlib.Nat.{le-trans, suc-mul, mul-le-mul-right}
 use native.Mathlib.Omega.{arith}
 use lib.Dec.{T}
-use lib.ListN.{length, getD, length-append}
+use lib.ListN.{length, length-append}
 use Rattle.fold.specs.Listed.{listed}
-use Rattle.model.specs.Model.{Yard, slotOf, weighed, outcome, allowed}
+use Rattle.model.specs.Model.{Yard, weighed, outcome, allowed}
 use Rattle.model.specs.Rows.{allowed-is}
-use Rattle.day.specs.Sound.{dayLimits, Range, range, sound}
-use Rattle.day.specs.SoundLaws.{Sound, Within, sound-is}
+use Rattle.day.specs.Sound.{dayLimits, Range, range}
+use Rattle.day.specs.SoundLaws.{Sound, Within}
 use Rattle.day.specs.Most.{mostSplits, mostCost, sound-revisits, sound-splits, sound-cost}
 use Rattle.day.specs.declared.Limits.{Limits}
 use Rattle.lines.specs.Lines.{rowText, rowsText}

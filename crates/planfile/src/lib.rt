@@ -5,7 +5,6 @@
 // say of valuing's checks and of the plan's text (specs/PlanText.antt), which has at most 124 bytes. The functions below it take slices,
 // so that records of other sizes use them too. Assumes nothing.
 ghost use mathlib.Core.Path.{_≡_};
-ghost use mathlib.Core.List.{[], _∷_};
 ghost use Prim.Native.Nat.{_+_, _≤_};
 ghost use lib.ListN.{length};
 ghost use Rattle.day.specs.Sound.{dayLimits, yard};

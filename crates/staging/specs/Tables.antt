@@ -1,7 +1,7 @@
 -- The model as staged choices: at slot t, where the set r of trains remains, the set s is served. Which sets may be served, and what one
 -- costs: equation (1) by slots. With the tables over sets that the code fills.
 -- Assumes nothing.
-use mathlib.Core.Bool.{Bool, cond, _&&_}
+use mathlib.Core.Bool.{cond, _&&_}
 use mathlib.Core.List.{List}
 use Prim.Native.Nat.{ℕ, _+_, _-_, _*_}
 use lib.Bits.{bitAnd}
@@ -11,7 +11,7 @@ use lib.ListN.{getD}
 use Rattle.fold.specs.Fold.{sum, some}
 use Rattle.sets.specs.Mask.{has, mask}
 use Rattle.sets.specs.Subset.{subset}
-use Rattle.model.specs.Model.{Yard, received, supplies, firstSlot, lastSlot}
+use Rattle.model.specs.Model.{Yard, received, supplies}
 use Rattle.optimum.specs.Schedules.{Test, Contribution}
 
 -- ---- of n trains that receive a i j boxes from each other

@@ -24,7 +24,7 @@ use Rattle.day.specs.Answer.{Answer, gives, refuses}
 use Rattle.day.specs.Sound.{dayLimits, yard, within, headRanges, trainRanges, shaped, sound, numberBefore, trainSound, unused, positionSound, pairSound, receiverSound}
 use Rattle.day.specs.declared.Day.{Day}
 use Rattle.valuing.specs.Valuing.{valued, strays, overfull}
-use Rattle.table.specs.Days.{move, boxTable, padded, dayOf, openDay, paperDay, numbered}
+use Rattle.table.specs.Days.{move, dayOf, openDay, paperDay, numbered}
 
 -- ---- what a line says
 

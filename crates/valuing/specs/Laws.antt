@@ -1,23 +1,22 @@
 -- The checks of valuing against the model: on a sound day a row is valued exactly where it is allowed, and then the answer is the
 -- model's.
 -- Assumes nothing.
-use mathlib.Core.Path.{_≡_, refl, sym, ap, _∙_, subst}
-use mathlib.Core.Bool.{Bool, true, false, not, cond, _&&_}
+use mathlib.Core.Path.{_≡_, sym, ap, _∙_, subst}
+use mathlib.Core.Bool.{Bool, true, false, not}
 use mathlib.Core.List.{List, [], _∷_}
 use Prim.Native.Nat.{ℕ, suc, _+_, _≤_, _<_}
 use native.Mathlib.Numerals.{add-one}
 use native.Mathlib.Omega.{arith}
-use lib.Dec.{T, eqb}
+use lib.Dec.{T}
 use lib.ListN.{length}
 use borrow.Author.Tests.{eq-eqb, ne-eqb}
-use Rattle.fold.specs.Test.{is-true, of-true, both, both-of, clash}
 use Rattle.fold.specs.Fold.{each, each-at, each-i, lowest, each-lowest, lowest-each}
 use Rattle.model.specs.Model.{Yard, slotOf, firstSlot, lastSlot, Outcome, outcome, inSlots, inWindow, roomy, allowed}
 use Rattle.model.specs.Rows
 use Rattle.model.specs.Rows.{windowed, allowed-tests, tests-allowed, both-le, le-both}
 use Rattle.day.specs.Sound.{sound}
 use Rattle.day.specs.SoundLaws.{sound-is}
-use Rattle.day.specs.Answer.{Answer, gives, refuses}
+use Rattle.day.specs.Answer.{gives, refuses}
 use Rattle.day.specs.AnswerLaws.{checked-holds, checked-gives}
 use Rattle.day.specs.declared.Limits.{Limits}
 use Rattle.valuing.specs.Valuing.{strays, overfull, rowChecks, valued}

@@ -4,10 +4,10 @@ use mathlib.Core.Path.{_≡_, refl, ap, _∙_, subst}
 use mathlib.Core.List.{List, [], _∷_, _++_}
 use Prim.Native.Nat.{ℕ, _≤_, _<_}
 use native.Mathlib.Omega.{arith}
-use lib.ListN.{length, getD, set, drop}
+use lib.ListN.{length, set, drop}
 use borrow.Author.Tests.{le-leb, lt-leb}
 use Rattle.model.specs.Model.{Outcome}
-use Rattle.day.specs.Answer.{Answer, gives, refuses, refusal, number, carried}
+use Rattle.day.specs.Answer.{Answer, gives, refusal, number, carried}
 use Rattle.day.specs.Numbers.{Tells}
 use Rattle.day.specs.declared.Limits.{Limits}
 use Rattle.day.specs.declared.Numbered.{Numbered}

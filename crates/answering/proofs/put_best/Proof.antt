@@ -1,6 +1,6 @@
 -- `answering::put_best` meets its contract. The areas suffice, so planning answers the best plan or 9.
 -- Assumes nothing.
-use mathlib.Core.Path.{_≡_, sym, ap, _∙_, subst}
+use mathlib.Core.Path.{_≡_, sym, ap, _∙_}
 use mathlib.Core.List.{List}
 use Prim.Native.Nat.{ℕ, _≤_}
 use native.Mathlib.Omega.{arith}
@@ -9,7 +9,6 @@ use Rattle.model.specs.BestOf.{bestOf}
 use Rattle.day.specs.Sound.{dayLimits, yard}
 use Rattle.day.specs.SoundLaws.{sound-is}
 use Rattle.day.specs.Answer.{gives}
-use Rattle.decimal.specs.Place.{Put}
 use Rattle.output.specs.Laws.{put-count}
 use Rattle.valuing.specs.Valuing.{outcomeOf}
 use Rattle.planfile.specs.PlanText.{planLines}

@@ -1,16 +1,14 @@
 -- `answering::put_refusal` meets its contract. The names line by the number, and the row after it; numbers of 64 bits fit.
 -- Assumes nothing.
-use mathlib.Core.Path.{_≡_}
 use mathlib.Core.List.{[], _∷_, _++_}
-use Prim.Native.Nat.{_≤_}
 use native.Mathlib.Omega.{arith}
-use lib.ListN.{length, length-append}
-use Rattle.day.specs.Answer.{number, carried}
+use lib.ListN.{length-append}
+use Rattle.day.specs.Answer.{number}
 use Rattle.decimal.specs.Place.{Put}
 use Rattle.decimal.specs.PlaceLaws.{put-text}
 use Rattle.lines.specs.Lines.{rowText}
 use Rattle.output.specs.Laws.{put-count}
-use Rattle.answering.specs.Answering.{lineNames, intervalNames, refusalText}
+use Rattle.answering.specs.Answering.{lineNames, intervalNames}
 use Rattle.answering.specs.Laws.{Word, nine-lines, other-lines, nine-fits, other-fits}
 use borrow.Author.Needs.{needs}
 use Rattle.answering.proofs.put_refusal.Statement.{statement}

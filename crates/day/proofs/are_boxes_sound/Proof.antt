@@ -1,6 +1,6 @@
 -- `day::are_boxes_sound` meets its contract. The record's table has a place for each pair.
 -- Assumes nothing.
-use mathlib.Core.Path.{_≡_, refl, ap}
+use mathlib.Core.Path.{_≡_, ap}
 use native.Mathlib.Omega.{arith}
 use lib.ListN.{length}
 use Rattle.day.specs.declared.Limits.{Limits}

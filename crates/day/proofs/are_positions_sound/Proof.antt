@@ -1,6 +1,6 @@
 -- `day::are_positions_sound` meets its contract. The record's arrays have a place for each train that the limits allow.
 -- Assumes nothing.
-use mathlib.Core.Path.{_≡_, refl, ap}
+use mathlib.Core.Path.{_≡_, ap}
 use native.Mathlib.Omega.{arith}
 use lib.ListN.{length}
 use Rattle.day.specs.declared.Limits.{Limits}

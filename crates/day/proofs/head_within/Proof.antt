@@ -1,6 +1,5 @@
 -- `day::head_within` meets its contract. The five tests are the definition's, one for each field.
 -- Assumes nothing.
-use mathlib.Core.Path.{refl}
 use mathlib.Core.Bool.{and-assoc, and-true}
 use Rattle.day.specs.Sound.{within, headRanges}
 use borrow.Author.Needs.{needs}

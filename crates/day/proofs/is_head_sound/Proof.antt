@@ -1,6 +1,5 @@
 -- `day::is_head_sound` meets its contract. The test of the row, at 01's limits.
 -- Assumes nothing.
-use mathlib.Core.Path.{refl}
 use borrow.Author.Needs.{needs}
 use Rattle.day.proofs.is_head_sound.Statement.{statement}
 use Rattle.day.proofs.is_head_sound.Tie as tie

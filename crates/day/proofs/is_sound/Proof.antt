@@ -1,6 +1,6 @@
 -- `day::is_sound` meets its contract. The shape is the record type's, and each part has its own function.
 -- Assumes nothing.
-use mathlib.Core.Path.{_≡_, refl}
+use mathlib.Core.Path.{_≡_}
 use lib.ListN.{length}
 use Rattle.day.specs.Sound.{shaped, sound}
 use borrow.Author.Needs.{needs}

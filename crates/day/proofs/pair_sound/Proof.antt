@@ -1,6 +1,5 @@
 -- `day::pair_sound` meets its contract. By the two cases of the test that both are trains and differ.
 -- Assumes nothing.
-use mathlib.Core.Path.{refl}
 use Rattle.day.specs.Sound.{pairSound}
 use borrow.Author.Needs.{needs}
 use Rattle.day.proofs.pair_sound.Statement.{statement}

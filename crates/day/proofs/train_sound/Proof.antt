@@ -1,6 +1,5 @@
 -- `day::train_sound` meets its contract. The test is the definition's, with the number before put in.
 -- Assumes nothing.
-use mathlib.Core.Path.{refl}
 use Rattle.day.specs.Sound.{trainSound}
 use borrow.Author.Needs.{needs}
 use Rattle.day.proofs.train_sound.Statement.{statement}

@@ -1,6 +1,5 @@
 -- `day::train_within` meets its contract. The three tests are the definition's, one for each field.
 -- Assumes nothing.
-use mathlib.Core.Path.{refl}
 use mathlib.Core.Bool.{and-assoc, and-true}
 use Rattle.day.specs.Sound.{within, trainRanges}
 use borrow.Author.Needs.{needs}

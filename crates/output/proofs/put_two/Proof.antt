@@ -1,6 +1,6 @@
 -- `output::put_two` meets its contract. A field, and the last one.
 -- Assumes nothing.
-use mathlib.Core.List.{[], _∷_}
+use mathlib.Core.List.{[]}
 use native.Mathlib.Omega.{arith}
 use Rattle.lines.specs.Lines.{rowText}
 use Rattle.output.specs.Laws.{row-length, put-row}

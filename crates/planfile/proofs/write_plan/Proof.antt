@@ -1,6 +1,6 @@
 -- `planfile::write_plan` meets its contract. A refusal of valuing is handed on; the text of an allowed row fits the buffer.
 -- Assumes nothing.
-use mathlib.Core.Path.{_≡_, sym, ap, _∙_, subst}
+use mathlib.Core.Path.{_≡_, sym, ap, _∙_}
 use Prim.Native.Nat.{_≤_}
 use native.Mathlib.Omega.{arith}
 use lib.Dec.{T}

@@ -2,8 +2,8 @@
 -- Assumes nothing.
 use Rattle.valuing.specs.Laws.{overfull-is}
 use Prim.Native.Nat.{_≤_, _-_}
-use mathlib.Core.Path.{_≡_, sym, ap, _∙_}
-use mathlib.Core.Bool.{false, not}
+use mathlib.Core.Path.{_≡_, sym, _∙_}
+use mathlib.Core.Bool.{false}
 use borrow.Author.Needs.{needs}
 use Rattle.fold.specs.Fold.{some, no-some, none-next, none-end, lowest-found, lowest-none}
 use Rattle.valuing.specs.Valuing.{overfull}

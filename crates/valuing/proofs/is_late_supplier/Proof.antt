@@ -1,6 +1,5 @@
 -- `valuing::is_late_supplier` meets its contract. The test is the definition's, with the entry of the table put in.
 -- Assumes nothing.
-use mathlib.Core.Path.{refl}
 use Rattle.model.specs.Model.{lateSupplier}
 use borrow.Author.Needs.{needs}
 use Rattle.valuing.proofs.is_late_supplier.Statement.{statement}

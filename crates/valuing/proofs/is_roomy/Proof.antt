@@ -1,6 +1,5 @@
 -- `valuing::is_roomy` meets its contract. The ones of the slot's mask are its trains.
 -- Assumes nothing.
-use mathlib.Core.Path.{refl}
 use Rattle.sets.specs.Mask.{ones-mask}
 use Rattle.model.specs.Model.{roomy, load, slotMask}
 use borrow.Author.Needs.{needs}

@@ -1,6 +1,6 @@
 -- `valuing::split_boxes` meets its contract. By the two cases of the test that the slots are equal.
 -- Assumes nothing.
-use mathlib.Core.Path.{refl, _∙_}
+use mathlib.Core.Path.{_∙_}
 use borrow.Author.Tests.{eq-eqb, ne-eqb}
 use Rattle.model.specs.Model.{splitBoxes}
 use borrow.Author.Needs.{needs}

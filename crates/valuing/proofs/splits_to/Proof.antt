@@ -1,7 +1,7 @@
 -- `valuing::splits_to` meets its contract. The loop's invariant: the sum of the split boxes from the trains passed, at most 255 for each.
 -- Assumes nothing.
 use Prim.Native.Nat.{_≤_, _-_, _*_}
-use mathlib.Core.Path.{_≡_, sym, ap, _∙_}
+use mathlib.Core.Path.{_≡_, sym, _∙_}
 use borrow.Author.Needs.{needs}
 use native.Mathlib.Omega.{arith}
 use Rattle.fold.specs.Fold.{sum, sum-none, sum-next, at-end}

@@ -1,6 +1,5 @@
 -- `valuing::weigh` meets its contract. The two products and their sum fit 64 bits.
 -- Assumes nothing.
-use mathlib.Core.Path.{refl}
 use native.Mathlib.Omega.{arith}
 use native.Mathlib.Nat.{mul-le-mul}
 use Rattle.model.specs.Model.{weighed}

@@ -1,6 +1,6 @@
 -- `yard::value_day` meets its contract. By the two cases of valuing.
 -- Assumes nothing.
-use mathlib.Core.Path.{_≡_, sym, ap, _∙_}
+use mathlib.Core.Path.{sym, ap, _∙_}
 use Rattle.valuing.specs.Valuing.{answer}
 use Rattle.yard.specs.Laws.{told-values, told-same}
 use borrow.Author.Needs.{needs}

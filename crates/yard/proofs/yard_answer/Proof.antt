@@ -1,7 +1,6 @@
 -- `yard::yard_answer` meets its contract. By the two cases of the answer.
 -- Assumes nothing.
-use mathlib.Core.Path.{_≡_, sym, ap, _∙_}
-use Rattle.day.specs.Answer.{Answer}
+use mathlib.Core.Path.{sym, ap, _∙_}
 use Rattle.output.specs.Output.{answer}
 use Rattle.yard.specs.Interface.{code, count}
 use borrow.Author.Needs.{needs}

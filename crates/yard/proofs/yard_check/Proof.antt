@@ -1,6 +1,6 @@
 -- `yard::yard_check` meets its contract. By the two cases of reading.
 -- Assumes nothing.
-use mathlib.Core.Path.{_≡_, sym, ap, _∙_}
+use mathlib.Core.Path.{sym, ap, _∙_}
 use Rattle.day.specs.Sound.{yard}
 use Rattle.dayread.specs.Whole.{answer}
 use Rattle.yard.specs.Interface.{code, line}

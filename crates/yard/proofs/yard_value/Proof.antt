@@ -1,6 +1,6 @@
 -- `yard::yard_value` meets its contract. The room, then the two cases of reading.
 -- Assumes nothing.
-use mathlib.Core.Path.{_≡_, sym, ap, _∙_}
+use mathlib.Core.Path.{sym, ap, _∙_}
 use Rattle.day.specs.Sound.{dayLimits, yard}
 use Rattle.valuing.specs.Valuing.{valued}
 use Rattle.dayread.specs.Whole.{answer}
