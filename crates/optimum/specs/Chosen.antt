@@ -1,6 +1,7 @@
 -- The row that the choices in a workspace give. `rowIn c n m N` is a function of the workspace alone, so that a call over it can promise
 -- it; `Leads` says that following the choices passes through the sets of a row. Once the two loops of Layers.antt are through
--- (`Solved`), with all positions wanted at the first stage, the choices lead to the best row (`solved-leads`, `solved-best`), if there is one.
+-- (`Solved`), with all positions wanted at the first stage, the choices lead to the best row (`solved-leads`, `solved-best`), if there is
+-- one.
 -- Assumes nothing.
 use mathlib.Core.Path.{_≡_, refl, sym, ap, ap₂, _∙_, subst}
 use mathlib.Core.List.{List, [], _∷_}

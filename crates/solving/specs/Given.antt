@@ -1,5 +1,5 @@
 -- What the functions over tables are given: tables that reach as far as the sets and slots asked for, and entries so small that every sum
--- of costs fits 64 bits and stays below `noCost`. And the cell that one of them finds.
+-- of costs fits 64 bits and stays below `noCost`; room by tracks, and the windows of the slots left. And the cells that they find.
 -- Assumes nothing.
 use mathlib.Core.List.{List}
 use Prim.Native.Nat.{ℕ, suc, _-_, _*_, _≤_, _<_}
