@@ -18,11 +18,11 @@ use Rattle.model.specs.Model.{Yard, Outcome, outcome}
 use Rattle.model.specs.BestOf.{bestOf, is-best}
 use Rattle.model.specs.Rows.{allowed-is}
 use Rattle.day.specs.Answer.{gives, refuses, number, carried}
-use Rattle.day.specs.Numbers.{Tells, carried-values}
+use Rattle.refusals.specs.Numbers.{Tells, carried-values}
 use Rattle.day.specs.Sound.{dayLimits, Range, range, sound}
 use Rattle.day.specs.SoundLaws.{sound-is}
 use Rattle.day.specs.declared.Limits.{Limits}
-use Rattle.day.specs.declared.Numbered.{Numbered}
+use Rattle.refusals.specs.declared.Numbered.{Numbered}
 use Rattle.day.specs.declared.Refusal.{Refusal}
 use Rattle.lines.specs.Lines.{rowText, rowsText}
 use Rattle.lines.specs.RowSize.{mostInRow, digits-most, row-size}

@@ -29,7 +29,7 @@ fn put_refusal(out: &mut [u8], refusal: Refusal) -> usize
     requires { ⌜ 124 ≤ length (now out) ⌝ }
     ensures { λ r. ⌜ Put (now (out .entry)) (now (out .exit)) 0 r (refusalText (number refusal) (carried refusal)) × (r ≤ 124) ⌝ }
 {
-    let told = day::in_numbers(refusal);
+    let told = refusals::in_numbers(refusal);
     if told.number == 9 {
         let next = output::put_bytes(out, 0, &INTERVAL_NAMES);
         return output::put_four(out, next, 9, told.first, told.second, told.third);

@@ -3,4 +3,3 @@ pub mod AnswerLaws
 pub mod Sound
 pub mod SoundLaws
 pub mod Most
-pub mod Numbers

@@ -1,8 +1,7 @@
 // The day record, its soundness, and the refusals of document 01.
 //
 // Proved: `is_sound` is the definition `sound` of specs/Sound.antt for every record, sound or not. A record's parts are tested by
-// functions over slices, a width and limits, so that records of other sizes use them too. `in_numbers` gives a refusal's number and values
-// as specs/Answer.antt says. Assumes nothing.
+// functions over slices, a width and limits, so that records of other sizes use them too. Assumes nothing.
 ghost use mathlib.Core.Path.{_≡_};
 ghost use mathlib.Core.List.{[], _∷_};
 ghost use Prim.Native.Nat.{_≤_, _<_, _*_};
@@ -10,8 +9,6 @@ ghost use lib.ListN.{length};
 ghost use Rattle.fold.specs.Fold.{each};
 ghost use Rattle.model.specs.Model.{cell};
 ghost use Rattle.model.specs.Cells.{InTable};
-ghost use Rattle.day.specs.Answer.{number, carried};
-ghost use Rattle.day.specs.Numbers.{Tells};
 ghost use Rattle.day.specs.Sound.{dayLimits, yard, range, between, within, headRanges, trainRanges, moveRanges, headRow, numberBefore, trainSound, unused, positionSound, pairSound, receiverSound, sound};
 
 // A day. Positions are counted from 0; A(i, j), the boxes that train i receives from train j, stands at i * 12 + j of `boxes`.
@@ -54,14 +51,6 @@ pub enum Refusal {
     RowLength,
     OutsideWindow(usize),
     SlotOverfull(u8),
-}
-
-// A refusal in the numbers of document 01: its own, and the values that it carries, 0 where there are fewer than three.
-pub struct Numbered {
-    pub number: u64,
-    pub first: u64,
-    pub second: u64,
-    pub third: u64,
 }
 
 // The limits of document 01.
@@ -287,46 +276,4 @@ pub fn is_sound(day: Day) -> bool
     ensures { λ r. ⌜ r ≡ sound dayLimits (yard day) ⌝ }
 {
     is_head_sound(day) & are_positions_sound(day) & are_boxes_sound(day)
-}
-
-// A refusal that carries one value.
-fn carrying(number: u64, value: usize) -> Numbered
-    ensures { λ r. ⌜ Tells number (value ∷ []) r ⌝ }
-{
-    Numbered {
-        number,
-        first: value as u64,
-        second: 0,
-        third: 0,
-    }
-}
-
-// A refusal's number and the values that it carries.
-pub fn in_numbers(refusal: Refusal) -> Numbered
-    ensures { λ r. ⌜ Tells (number refusal) (carried refusal) r ⌝ }
-{
-    match refusal {
-        Refusal::NamesLine(line) => carrying(1, line),
-        Refusal::RowForm(line) => carrying(2, line),
-        Refusal::OutOfLimits(line) => carrying(3, line),
-        Refusal::NumberOrder(line) => carrying(4, line),
-        Refusal::WindowOrder(line) => carrying(5, line),
-        Refusal::UnknownTrain(line) => carrying(6, line),
-        Refusal::PairOrder(line) => carrying(7, line),
-        Refusal::Unsound => carrying(8, 0),
-        Refusal::NoAllowedRow {
-            first,
-            last,
-            trains,
-        } => Numbered {
-            number: 9,
-            first: first as u64,
-            second: last as u64,
-            third: trains as u64,
-        },
-        Refusal::TooShort => carrying(10, 0),
-        Refusal::RowLength => carrying(11, 0),
-        Refusal::OutsideWindow(position) => carrying(12, position),
-        Refusal::SlotOverfull(slot) => carrying(13, slot as usize),
-    }
 }

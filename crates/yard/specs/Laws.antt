@@ -8,9 +8,9 @@ use lib.ListN.{length, set, drop}
 use borrow.Author.Tests.{le-leb, lt-leb}
 use Rattle.model.specs.Model.{Outcome}
 use Rattle.day.specs.Answer.{Answer, gives, refusal, number, carried}
-use Rattle.day.specs.Numbers.{Tells}
+use Rattle.refusals.specs.Numbers.{Tells}
 use Rattle.day.specs.declared.Limits.{Limits}
-use Rattle.day.specs.declared.Numbered.{Numbered}
+use Rattle.refusals.specs.declared.Numbered.{Numbered}
 use Rattle.day.specs.declared.Refusal.{Refusal}
 use Rattle.valuing.specs.Valuing.{valued}
 use Rattle.dayfile.specs.Reading.{readDay}

@@ -35,7 +35,7 @@ pub extern "C" fn yard_answer(text: &[u8], out: &mut [u8], bytes: &mut usize) ->
         }
         Wrote::Refused(refusal) => {
             *bytes = 0;
-            day::in_numbers(refusal).number
+            refusals::in_numbers(refusal).number
         }
     }
 }
@@ -54,7 +54,7 @@ pub extern "C" fn yard_check(text: &[u8], at: &mut u64) -> u64
             0
         }
         Outcome::Refused(refusal) => {
-            let told = day::in_numbers(refusal);
+            let told = refusals::in_numbers(refusal);
             *at = told.first;
             told.number
         }
@@ -76,7 +76,7 @@ fn tell(numbers: &mut [u64], given: Refusal) -> u64
     requires { ⌜ 3 ≤ length (now numbers) ⌝ }
     ensures { λ r. ⌜ Told (now (numbers .entry)) (refusal given) r (now (numbers .exit)) ⌝ }
 {
-    let told = day::in_numbers(given);
+    let told = refusals::in_numbers(given);
     store_three(numbers, told.first, told.second, told.third);
     told.number
 }

@@ -1,0 +1,57 @@
+// Refusals in the numbers of document 01.
+//
+// Proved: `in_numbers` gives a refusal's number and what it carries, as day's Answer.antt says. Assumes nothing.
+ghost use mathlib.Core.List.{[], _∷_};
+ghost use Rattle.day.specs.Answer.{number, carried};
+ghost use Rattle.refusals.specs.Numbers.{Tells};
+use day::Refusal;
+
+// A refusal in the numbers of document 01: its own, and the values that it carries, 0 where there are fewer than three.
+pub struct Numbered {
+    pub number: u64,
+    pub first: u64,
+    pub second: u64,
+    pub third: u64,
+}
+
+// A refusal that carries one value.
+fn carrying(number: u64, value: usize) -> Numbered
+    ensures { λ r. ⌜ Tells number (value ∷ []) r ⌝ }
+{
+    Numbered {
+        number,
+        first: value as u64,
+        second: 0,
+        third: 0,
+    }
+}
+
+// A refusal's number and the values that it carries.
+pub fn in_numbers(refusal: Refusal) -> Numbered
+    ensures { λ r. ⌜ Tells (number refusal) (carried refusal) r ⌝ }
+{
+    match refusal {
+        Refusal::NamesLine(line) => carrying(1, line),
+        Refusal::RowForm(line) => carrying(2, line),
+        Refusal::OutOfLimits(line) => carrying(3, line),
+        Refusal::NumberOrder(line) => carrying(4, line),
+        Refusal::WindowOrder(line) => carrying(5, line),
+        Refusal::UnknownTrain(line) => carrying(6, line),
+        Refusal::PairOrder(line) => carrying(7, line),
+        Refusal::Unsound => carrying(8, 0),
+        Refusal::NoAllowedRow {
+            first,
+            last,
+            trains,
+        } => Numbered {
+            number: 9,
+            first: first as u64,
+            second: last as u64,
+            third: trains as u64,
+        },
+        Refusal::TooShort => carrying(10, 0),
+        Refusal::RowLength => carrying(11, 0),
+        Refusal::OutsideWindow(position) => carrying(12, position),
+        Refusal::SlotOverfull(slot) => carrying(13, slot as usize),
+    }
+}
