@@ -12,7 +12,7 @@ use Rattle.tables.specs.Filled.{Filled, Added, filled-none, filled-next,
 
 -- ---- a set m below 2 ^ k, and the train k
 
-pub ones-join : (k m : ℕ) → m < 2 ^ k → ones (2 ^ k + m) ≡ ones m + 1
+ones-join : (k m : ℕ) → m < 2 ^ k → ones (2 ^ k + m) ≡ ones m + 1
 unfolding ones
 ones-join k m h = ap (λ x. ones (x + m)) (sym (one-mul (2 ^ k))) ∙ ones-cat k 1 m h ∙ add-comm 1 (ones m)
 

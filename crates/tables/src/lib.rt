@@ -15,7 +15,7 @@ ghost use Rattle.staging.specs.Tables.{needing, fromOutside, openIn};
 ghost use Rattle.tables.specs.Given.{Given};
 ghost use Rattle.tables.specs.Entries.{receivers, withSupplier, lateCost, withRevisit, withPair, priceOf, splitCost};
 ghost use Rattle.tables.specs.Filled.{Filled, Added};
-ghost use Rattle.tables.specs.Splits.{Joinable};
+ghost use Rattle.tables.specs.Prices.{Joinable};
 
 // ---- the trains with a supplier in each set
 
@@ -102,8 +102,9 @@ fn between(boxes: &[u8], width: usize, k: usize, b: usize) -> u32
     day::cell_at(boxes, width, k, b) as u32 + day::cell_at(boxes, width, b, k) as u32
 }
 
-// To the split moves of the sets with train k, which is `size`, that have no train but those before b, which is `below`, adds those of the
-// same sets with b. What b and k receive from each other is `pair`: it is split where one of the two is in the set, and not where both are.
+// To the split moves of the sets with train k, the one of `size`, and no others but trains before b, the one of `below`, adds those of
+// the same sets with b. The boxes that b and k receive from each other, `pair`, are split where one of the two is in the set, and not
+// where both are.
 fn join_pair(price: &mut [u32], size: usize, below: usize, pair: u32)
     requires { ⌜ Joinable size below pair (now price) ⌝ }
     ensures { λ _. ⌜ Added (withPair (now (price .entry)) size below pair) (size + below) below (now (price .entry)) (now (price .exit)) ⌝ }

@@ -15,7 +15,7 @@ use Rattle.staging.specs.Tables.{fromOutside}
 use Rattle.tables.specs.Given.{given-pair}
 use Rattle.tables.specs.Filled.{Filled, filled-next, filled-end, filled-here, filled-since}
 use Rattle.tables.specs.Needing.{sets-fit}
-use Rattle.tables.specs.Splits.{Joinable, pair-joinable, pair-next}
+use Rattle.tables.specs.Prices.{Joinable, pair-joinable, pair-next}
 use Rattle.tables.proofs.add_train.Statement.{statement}
 use Rattle.tables.proofs.add_train.Tie as tie
 

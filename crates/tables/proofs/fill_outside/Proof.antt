@@ -13,7 +13,7 @@ use Rattle.model.specs.Model.{cell}
 use Rattle.staging.specs.Tables.{fromOutside}
 use Rattle.tables.specs.Filled.{Filled, filled-end, filled-here, filled-since}
 use Rattle.tables.specs.Needing.{sets-fit}
-use Rattle.tables.specs.Splits.{split-first}
+use Rattle.tables.specs.Prices.{split-first}
 use Rattle.tables.proofs.fill_outside.Statement.{statement}
 use Rattle.tables.proofs.fill_outside.Tie as tie
 

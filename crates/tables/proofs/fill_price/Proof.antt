@@ -7,7 +7,7 @@ use lib.Pow.{pow-mono}
 use Rattle.model.specs.Model.{cell}
 use Rattle.staging.specs.Tables.{fromOutside}
 use Rattle.tables.specs.Filled.{Filled, filled-end}
-use Rattle.tables.specs.Splits.{split-word, split-priced, price-most}
+use Rattle.tables.specs.Prices.{split-word, split-priced, price-most}
 use Rattle.tables.proofs.fill_price.Statement.{statement}
 use Rattle.tables.proofs.fill_price.Tie as tie
 
