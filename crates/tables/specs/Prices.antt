@@ -25,7 +25,7 @@ module _ (n : ℕ) (a : ℕ → ℕ → ℕ) (few : n ≤ 12) (byte : (i j : ℕ
 
 -- ---- the loops that fill the table
 
--- what `join_pair` is given: entries of the sets below `size + below`, and room for `below` more; each of these will not be negative
+-- what `join_pair` is given: bounded entries of the sets below `size + below`, room for `below` more, and no difference below 0
 pub record Joinable (size below pair : ℕ) (b : List ℕ) : Type 0 where
   pub few : size ≤ 4096
   pub apart : below ≤ size
