@@ -85,34 +85,42 @@ static void fill_needing(uint16_t *need, const uint8_t *boxes, size_t n)
     }
 }
 
-static void fill_late(uint32_t *late, uint32_t revisit, size_t size)
+static void fill_late(uint32_t *late, uint32_t revisit, size_t n)
 {
-    for (size_t m = 0; m < size; m++)
-        late[m] = revisit * (uint32_t)__builtin_popcountll(m);
+    size_t size = 1;
+    late[0] = 0;
+    for (size_t k = 0; k < n; k++) {
+        for (size_t m = 0; m < size; m++)
+            late[size + m] = late[m] + revisit;
+        size += size;
+    }
 }
 
-static uint64_t outside_to(const uint8_t *boxes, size_t n, size_t s, size_t i)
+static uint32_t received_by(const uint8_t *boxes, size_t n, size_t k)
 {
-    uint64_t total = 0;
+    uint32_t total = 0;
     for (size_t j = 0; j < n; j++)
-        total += (s >> j) & 1 ? 0 : boxes[i * WIDTH + j];
-    return total;
+        total += boxes[k * WIDTH + j];
+    return total - boxes[k * WIDTH + k];
 }
 
-static uint64_t inside_from(const uint8_t *boxes, size_t n, size_t m, size_t k)
+static void add_train(uint32_t *price, const uint8_t *boxes, size_t n, size_t k, size_t size)
 {
-    uint64_t total = 0;
-    for (size_t i = 0; i < n; i++)
-        total += (m >> i) & 1 ? boxes[i * WIDTH + k] : 0;
-    return total;
+    size_t below = 1;
+    price[size] = received_by(boxes, n, k);
+    for (size_t b = 0; b < k; b++) {
+        uint32_t pair = (uint32_t)boxes[k * WIDTH + b] + boxes[b * WIDTH + k];
+        for (size_t m = 0; m < below; m++)
+            price[size + below + m] = price[below + m] + price[size + m] - (price[m] + pair);
+        below += below;
+    }
 }
 
 static void fill_price(uint32_t *price, const uint8_t *boxes, size_t n, size_t size, uint32_t tracks, uint32_t split)
 {
     price[0] = 0;
     for (size_t k = 0, below = 1; k < n; k++, below += below)
-        for (size_t m = 0; m < below; m++)
-            price[below + m] = (uint32_t)(price[m] + outside_to(boxes, n, below + m, k) - inside_from(boxes, n, m, k));
+        add_train(price, boxes, n, k, below);
     for (size_t s = 0; s < size; s++)
         price[s] = (uint32_t)__builtin_popcountll(s) <= tracks ? split * price[s] : BARRED;
 }
@@ -279,7 +287,7 @@ __attribute__((noinline)) static int plan(const struct day *d, uint64_t *cost, u
         return 0;
     size = (size_t)1 << d->trains;
     fill_needing(need, d->boxes, d->trains);
-    fill_late(late, d->revisit, size);
+    fill_late(late, d->revisit, d->trains);
     fill_price(price, d->boxes, d->trains, size, d->tracks, d->split);
     fill_open(opens, d);
     solve(cost, choice, need, late, price, opens, d->tracks, d->slots, size);

@@ -58,7 +58,7 @@ fn solve_day(day: Day, cost: &mut [u64], choice: &mut [u16], size: usize)
     let mut price = [0u32; 4096];
     let mut opens = [0usize; 8];
     tables::fill_needing(&mut need, &boxes, 12, n);
-    tables::fill_late(&mut late, day.revisit, size);
+    tables::fill_late(&mut late, day.revisit, n);
     tables::fill_price(&mut price, &boxes, 12, n, size, day.tracks, day.split);
     tables::fill_open(&mut opens, &first, &last, n, slots);
     solving::solve(

@@ -2,12 +2,11 @@
 -- Assumes nothing.
 use mathlib.Core.Bool.{cond}
 use mathlib.Core.List.{List}
-use Prim.Native.Nat.{ℕ, _-_, _*_}
+use Prim.Native.Nat.{ℕ, _+_, _-_, _*_}
 use lib.Bits.{bitOr}
 use lib.Count.{ones}
-use lib.Dec.{leb, ltb}
-use Rattle.fold.specs.Fold.{sum}
-use Rattle.sets.specs.Mask.{has, mask}
+use lib.Dec.{leb}
+use Rattle.sets.specs.Mask.{mask}
 use Rattle.model.specs.Model.{supplies}
 use Rattle.optimum.specs.Workspace.{at}
 use Rattle.staging.specs.Tables.{fromOutside, barred}
@@ -18,9 +17,9 @@ use Rattle.staging.specs.Tables.{fromOutside, barred}
 unfoldable pub receivers : ℕ → (ℕ → ℕ → ℕ) → ℕ → ℕ
 receivers n a k = mask n λ i. supplies a i k
 
--- the sets below `size` as they are in b, and each of them with one train more, of which the trains of `more` receive
-unfoldable pub doubled : List ℕ → ℕ → ℕ → ℕ → ℕ
-doubled b size more x = cond (ltb x size) (at b x) (bitOr (at b (x - size)) more)
+-- of the set m with one train more, from which the trains of `more` receive: b has the entry of m
+abbrev pub withSupplier : List ℕ → ℕ → ℕ → ℕ
+withSupplier b more m = bitOr (at b m) more
 
 -- ---- costs
 
@@ -28,16 +27,14 @@ doubled b size more x = cond (ltb x size) (at b x) (bitOr (at b (x - size)) more
 abbrev pub lateCost : ℕ → ℕ → ℕ
 lateCost revisit m = revisit * ones m
 
--- the boxes of train i from train j, where j is outside s; from all trains outside s
-unfoldable pub outsideBoxes : (ℕ → ℕ → ℕ) → ℕ → ℕ → ℕ → ℕ
-outsideBoxes a s i j = cond (has s j) 0 (a i j)
+-- of the set m with one train more: b has the entry of m
+abbrev pub withRevisit : List ℕ → ℕ → ℕ → ℕ
+withRevisit b revisit m = at b m + revisit
 
-unfoldable pub outsideTo : ℕ → (ℕ → ℕ → ℕ) → ℕ → ℕ → ℕ
-outsideTo n a s i = sum n (outsideBoxes a s i)
-
--- the boxes that the trains of m receive from train k
-unfoldable pub insideFrom : ℕ → (ℕ → ℕ → ℕ) → ℕ → ℕ → ℕ
-insideFrom n a m k = sum n λ i. cond (has m i) (a i k) 0
+-- the split moves of the set m with two trains more, those of the sets `below` and `size`, which receive `pair` boxes from each other: b
+-- has the split moves of m with one of the two and of m alone. Where the two are together the boxes between them are not split
+abbrev pub withPair : List ℕ → ℕ → ℕ → ℕ → ℕ → ℕ
+withPair b size below pair m = at b (below + m) + at b (size + m) - (at b m + pair)
 
 -- what the split moves of s cost; barred where it has more trains than tracks
 abbrev pub priceOf : ℕ → ℕ → ℕ → ℕ → ℕ

@@ -4,3 +4,4 @@ pub mod Filled
 pub mod Needing
 pub mod Costs
 pub mod Splits
+pub mod Prices

@@ -1,28 +1,27 @@
--- The trains with a supplier in a set: the sets with train k highest come from those below. With the loops that fill the table.
+-- The trains with a supplier in a set: the sets with train k highest come from those below. With the loop that fills the table.
 -- Assumes nothing.
 use mathlib.Core.Path.{_≡_, refl, sym, ap, ap₂, _∙_, subst}
 use mathlib.Core.Bool.{Bool, cond, _&&_, _||_}
 use mathlib.Core.List.{List}
 use mathlib.Core.Logic.{_⊎_, inl, inr, ⊎-elim, _≢_}
-use Prim.Native.Nat.{ℕ, suc, _+_, _-_, _^_, _≤_, _<_}
+use Prim.Native.Nat.{ℕ, suc, _+_, _^_, _≤_, _<_}
 use native.Mathlib.Nat.{pow-suc, one-mul}
 use native.Mathlib.Omega.{arith}
 use lib.Bits.{bitOr, or-shifted-r}
 use lib.Dec.{T, eqb, eqb→eq}
 use lib.ListN.{length, set}
 use lib.Pow.{pow-mono}
-use borrow.Author.Tests.{eq-eqb, ne-eqb, lt-ltb, le-ltb}
+use borrow.Author.Tests.{eq-eqb, ne-eqb}
 use Rattle.fold.specs.Test.{of-true, of-false, same-test, both, both-of, left, right, either-of}
 use Rattle.fold.specs.Fold.{some, some-at, some-of, none-i}
 use Rattle.fold.specs.Sums.{sum-ext, sum-only}
-use Rattle.fold.specs.Counting.{same-or, le-or-lt}
+use Rattle.fold.specs.Counting.{same-or}
 use Rattle.sets.specs.Mask.{has, mask, has-mask, mask-ext, mask-has, mask-or, mask-empty}
 use Rattle.model.specs.Model.{supplies}
-use Rattle.optimum.specs.Workspace.{at, kept-here, kept-then}
 use Rattle.sets.specs.Rest.{has-none}
 use Rattle.staging.specs.Tables.{needing}
-use Rattle.tables.specs.Entries.{receivers, doubled}
-use Rattle.tables.specs.Filled.{Filled, kept-more, filled-none, filled-next, filled-end}
+use Rattle.tables.specs.Entries.{receivers, withSupplier}
+use Rattle.tables.specs.Filled.{Filled, Added, filled-none, filled-next, added-filled}
 
 -- ---- a set m below 2 ^ k, and the train k: its digits
 
@@ -85,29 +84,7 @@ module _ (n : ℕ) (a : ℕ → ℕ → ℕ) where
           (λ z. joins i k l (right (has m k) (eqb k k) (of-true (eq-eqb k k refl))) z)
           (either-of (some n (within m i)) (supplies a i k) t)
 
--- ---- the loops that fill needing
-
-module _ (b : List ℕ) (size more : ℕ) where
-  doubled-low : (x : ℕ) → x < size → doubled b size more x ≡ at b x
-  unfolding doubled
-  doubled-low x l = ap (λ c. cond c (at b x) (bitOr (at b (x - size)) more)) (lt-ltb x size l)
-
-  doubled-high : (x y : ℕ) → size + y ≡ x → doubled b size more x ≡ bitOr (at b y) more
-  unfolding doubled
-  doubled-high x y e =
-      let d : x - size ≡ y = omega arith in
-      ap₂ (λ c z. cond c (at b x) (bitOr (at b z) more)) (le-ltb x size (omega arith)) d
-
-  -- the sets without the train stand there already; then the set m with it
-  pub doubled-none : Filled (doubled b size more) (size + 0) b b
-  doubled-none = filled-end (size + 0) (record { kept = kept-here size b; all = λ x l. sym (doubled-low x l) }) (omega arith) (omega arith)
-
-  pub doubled-next : {c : List ℕ} (m : ℕ) → Filled (doubled b size more) (size + m) b c → m < size → size + m < length c
-      → Filled (doubled b size more) (size + (m + 1)) b (set c (size + m) (bitOr (at c m) more))
-  doubled-next {c} m h l q =
-      filled-end (size + (m + 1))
-      (filled-next (bitOr (at c m) more) h q (ap (λ x. bitOr x more) (h .all m (omega arith) ∙ doubled-low m l) ∙ sym (doubled-high (size + m) m refl)))
-      (omega arith) (omega arith)
+-- ---- the loop that fills needing
 
 module _ (n : ℕ) (a : ℕ → ℕ → ℕ) where
   -- the empty set alone
@@ -116,21 +93,10 @@ module _ (n : ℕ) (a : ℕ → ℕ → ℕ) where
 
   -- the sets of the first k trains, and with them those of the first k + 1
   pub needing-next : {b₀ b c : List ℕ} (k size more : ℕ) → Filled (needing n a) size b₀ b → size ≡ 2 ^ k → k < n → more ≡ receivers n a k
-      → Filled (doubled b size more) (size + size) b c → Filled (needing n a) (size + size) b₀ c
-  needing-next {b₀} {b} {c} k size more h e l r d =
-      record {
-        kept = kept-then (kept-more (size + size) (h .kept) (omega arith)) (d .kept);
-        all = λ x m. d .all x m ∙ is x m (le-or-lt size x);
-      }
-    where
-      is : (x : ℕ) → x < size + size → (size ≤ x) ⊎ (x < size) → doubled b size more x ≡ needing n a x
-      is x m (inl q) =
-          let s : size + (x - size) ≡ x = omega arith in
-          doubled-high b size more x (x - size) s
-          ∙ ap₂ bitOr (h .all (x - size) (omega arith)) r
-          ∙ sym (needing-join n a k (x - size) l (omega arith))
-          ∙ ap (needing n a) (omega arith)
-      is x m (inr q) = doubled-low b size more x q ∙ h .all x q
+      → Added (withSupplier b more) size size b c → Filled (needing n a) (size + size) b₀ c
+  needing-next k size more h e l r d =
+      added-filled h d
+      (λ m q. ap₂ bitOr (h .all m q) r ∙ sym (needing-join n a k m l (omega arith)) ∙ ap (λ s. needing n a (s + m)) (sym e))
 
 -- 2 ^ k sets of the first k trains, and as many with train k: no more than 2 ^ n, and that is at most 4096
 pub sets-fit : (k n size : ℕ) → size ≡ 2 ^ k → k < n → n ≤ 12 → (size + size ≤ 2 ^ n) × (2 ^ n ≤ 4096)

@@ -8,15 +8,14 @@ ghost use mathlib.Core.Path.{_≡_};
 ghost use Prim.Native.Nat.{ℕ, suc, _+_, _*_, _^_, _≤_, _<_};
 ghost use lib.Count.{ones};
 ghost use lib.ListN.{length};
-ghost use Rattle.sets.specs.Mask.{has};
 ghost use Rattle.model.specs.Model.{cell};
 ghost use Rattle.model.specs.Cells.{InTable};
 ghost use Rattle.optimum.specs.Workspace.{at};
 ghost use Rattle.staging.specs.Tables.{needing, fromOutside, openIn};
 ghost use Rattle.tables.specs.Given.{Given};
-ghost use Rattle.tables.specs.Entries.{receivers, doubled, lateCost, outsideBoxes, outsideTo, insideFrom, priceOf, splitCost};
-ghost use Rattle.tables.specs.Filled.{Filled};
-ghost use Rattle.tables.specs.Splits.{Counted};
+ghost use Rattle.tables.specs.Entries.{receivers, withSupplier, lateCost, withRevisit, withPair, priceOf, splitCost};
+ghost use Rattle.tables.specs.Filled.{Filled, Added};
+ghost use Rattle.tables.specs.Prices.{Joinable};
 
 // ---- the trains with a supplier in each set
 
@@ -37,7 +36,7 @@ fn receivers_of(boxes: &[u8], width: usize, n: usize, k: usize) -> u16
 // To the entries of the sets below `size` adds those of the same sets with one train more, from which the trains of `more` receive.
 fn add_supplier(need: &mut [u16], size: usize, more: u16)
     requires { ⌜ (size ≤ 4096) × (size + size ≤ length (now need)) ⌝ }
-    ensures { λ _. ⌜ Filled (doubled (now (need .entry)) size more) (size + size) (now (need .entry)) (now (need .exit)) ⌝ }
+    ensures { λ _. ⌜ Added (withSupplier (now (need .entry)) more) size size (now (need .entry)) (now (need .exit)) ⌝ }
 {
     for m in 0..size {
         need[size + m] = need[m] | more;
@@ -59,79 +58,80 @@ pub fn fill_needing(need: &mut [u16], boxes: &[u8], width: usize, n: usize)
 
 // ---- what the revisits of each set cost
 
-pub fn fill_late(late: &mut [u32], revisit: u32, size: usize)
-    requires { ⌜ (revisit ≤ 65535) × (size ≤ 4096) × (size ≤ length (now late)) ⌝ }
-    ensures { λ _. ⌜ Filled (lateCost revisit) size (now (late .entry)) (now (late .exit)) × ((m : ℕ) → m < size → at (now (late .exit)) m ≤ 786420) ⌝ }
+// To the entries of the sets below `size` adds those of the same sets with one train more.
+fn add_revisit(late: &mut [u32], size: usize, revisit: u32)
+    requires { ⌜ (revisit ≤ 65535) × (size ≤ 4096) × (size + size ≤ length (now late)) × ((m : ℕ) → m < size → at (now late) m ≤ 786420) ⌝ }
+    ensures { λ _. ⌜ Added (withRevisit (now (late .entry)) revisit) size size (now (late .entry)) (now (late .exit)) ⌝ }
 {
     for m in 0..size {
-        late[m] = revisit * usize::count_ones(m);
+        late[size + m] = late[m] + revisit;
     }
 }
 
-// ---- what the split moves of each set cost
-
-// Whether train i is in the set s.
-fn is_in(s: usize, i: usize) -> bool
-    requires { ⌜ i < 64 ⌝ }
-    ensures { λ r. ⌜ r ≡ has s i ⌝ }
+pub fn fill_late(late: &mut [u32], revisit: u32, n: usize)
+    requires { ⌜ (revisit ≤ 65535) × (n ≤ 12) × (2 ^ n ≤ length (now late)) ⌝ }
+    ensures { λ _. ⌜ Filled (lateCost revisit) (2 ^ n) (now (late .entry)) (now (late .exit)) × ((m : ℕ) → m < 2 ^ n → at (now (late .exit)) m ≤ 786420) ⌝ }
 {
-    (s >> i) & 1 == 1
-}
-
-// The boxes that train i receives from train j, where j is outside s.
-fn outside_boxes(boxes: &[u8], width: usize, s: usize, i: usize, j: usize) -> u64
-    requires { ⌜ InTable width (now boxes) i j × (j < 64) ⌝ }
-    ensures { λ r. ⌜ (r ≡ outsideBoxes (cell width (now (boxes .entry))) s i j) × (r ≤ 255) ⌝ }
-{
-    if is_in(s, j) {
-        0
-    } else {
-        day::wide8(day::cell_at(boxes, width, i, j))
+    late[0] = 0;
+    let mut size = 1;
+    for _ in 0..n {
+        add_revisit(late, size, revisit);
+        size += size;
     }
 }
 
-// The boxes that train i receives from outside s.
-fn outside_to(boxes: &[u8], width: usize, n: usize, s: usize, i: usize) -> u64
-    requires { ⌜ Given n width (now boxes) × (i < n) ⌝ }
-    ensures { λ r. ⌜ (r ≡ outsideTo n (cell width (now (boxes .entry))) s i) × (r ≤ 3060) ⌝ }
-{
-    let mut total: u64 = 0;
-    for j in 0..n {
-        total += outside_boxes(boxes, width, s, i, j);
-    }
-    total
-}
+// ---- what the split moves of each set cost: boxes that its trains receive from outside it
 
-// The boxes that the trains of m receive from train k.
-fn inside_from(boxes: &[u8], width: usize, n: usize, m: usize, k: usize) -> u64
+// The boxes that train k receives from other trains: the split moves of the set of k alone.
+fn received_by(boxes: &[u8], width: usize, n: usize, k: usize) -> u32
     requires { ⌜ Given n width (now boxes) × (k < n) ⌝ }
-    ensures { λ r. ⌜ r ≡ insideFrom n (cell width (now (boxes .entry))) m k ⌝ }
+    ensures { λ r. ⌜ r ≡ fromOutside n (cell width (now (boxes .entry))) (2 ^ k) ⌝ }
 {
-    let mut total: u64 = 0;
-    for i in 0..n {
-        if is_in(m, i) {
-            total += day::wide8(day::cell_at(boxes, width, i, k));
-        }
+    let mut total: u32 = 0;
+    for j in 0..n {
+        total += day::cell_at(boxes, width, k, j) as u32;
     }
-    total
+    total - day::cell_at(boxes, width, k, k) as u32
 }
 
-// To the split moves of the sets below `size`, those of the trains before k, adds the split moves of the same sets with train k: k
-// brings its boxes from outside, and what the others receive from k is split no longer.
+// The boxes that the trains k and b receive from each other.
+fn between(boxes: &[u8], width: usize, k: usize, b: usize) -> u32
+    requires { ⌜ InTable width (now boxes) k b × InTable width (now boxes) b k ⌝ }
+    ensures { λ r. ⌜ r ≡ cell width (now (boxes .entry)) k b + cell width (now (boxes .entry)) b k ⌝ }
+{
+    day::cell_at(boxes, width, k, b) as u32 + day::cell_at(boxes, width, b, k) as u32
+}
+
+// To the split moves of the sets with train k, the one of `size`, and no others but trains before b, the one of `below`, adds those of
+// the same sets with b. The boxes that b and k receive from each other, `pair`, are split where one of the two is in the set, and not
+// where both are.
+fn join_pair(price: &mut [u32], size: usize, below: usize, pair: u32)
+    requires { ⌜ Joinable size below pair (now price) ⌝ }
+    ensures { λ _. ⌜ Added (withPair (now (price .entry)) size below pair) (size + below) below (now (price .entry)) (now (price .exit)) ⌝ }
+{
+    for m in 0..below {
+        price[size + below + m] = (price[below + m] + price[size + m]) - (price[m] + pair);
+    }
+}
+
+// To the split moves of the sets below `size`, those of the trains before k, adds the split moves of the same sets with train k: of k
+// alone, then with each train before it.
 fn add_train(price: &mut [u32], boxes: &[u8], width: usize, n: usize, k: usize, size: usize)
-    requires { ⌜ Given n width (now boxes) × (k < n) × (size ≡ 2 ^ k) × (size + size ≤ length (now price)) × Counted n (cell width (now boxes)) k size (now price) (now price) ⌝ }
-    ensures { λ _. ⌜ Counted n (cell width (now (boxes .entry))) (k + 1) (size + size) (now (price .entry)) (now (price .exit)) ⌝ }
+    requires { ⌜ Given n width (now boxes) × (k < n) × (size ≡ 2 ^ k) × (size + size ≤ length (now price)) × Filled (fromOutside n (cell width (now boxes))) size (now price) (now price) ⌝ }
+    ensures { λ _. ⌜ Filled (fromOutside n (cell width (now (boxes .entry)))) (size + size) (now (price .entry)) (now (price .exit)) ⌝ }
 {
-    for m in 0..size {
-        let most = day::wide32(price[m]) + outside_to(boxes, width, n, size + m, k);
-        price[size + m] = (most - inside_from(boxes, width, n, m, k)) as u32;
+    price[size] = received_by(boxes, width, n, k);
+    let mut below = 1;
+    for b in 0..k {
+        join_pair(price, size, below, between(boxes, width, k, b));
+        below += below;
     }
 }
 
-// The split moves of each set of the n trains: the boxes that its trains receive from outside it.
-fn fill_counts(price: &mut [u32], boxes: &[u8], width: usize, n: usize)
+// The split moves of each set of the n trains.
+fn fill_outside(price: &mut [u32], boxes: &[u8], width: usize, n: usize)
     requires { ⌜ Given n width (now boxes) × (2 ^ n ≤ length (now price)) ⌝ }
-    ensures { λ _. ⌜ Counted n (cell width (now (boxes .entry))) n (2 ^ n) (now (price .entry)) (now (price .exit)) ⌝ }
+    ensures { λ _. ⌜ Filled (fromOutside n (cell width (now (boxes .entry)))) (2 ^ n) (now (price .entry)) (now (price .exit)) ⌝ }
 {
     price[0] = 0;
     let mut size = 1;
@@ -174,7 +174,7 @@ pub fn fill_price(
     requires { ⌜ Given n width (now boxes) × (split ≤ 65535) × (size ≡ 2 ^ n) × (size ≤ length (now price)) ⌝ }
     ensures { λ _. ⌜ Filled (splitCost n (cell width (now (boxes .entry))) tracks split) size (now (price .entry)) (now (price .exit)) × ((s : ℕ) → s < size → ones s ≤ tracks → split * fromOutside n (cell width (now (boxes .entry))) s ≤ 2406445200) ⌝ }
 {
-    fill_counts(price, boxes, width, n);
+    fill_outside(price, boxes, width, n);
     set_prices(price, size, tracks, split);
 }
 

@@ -37,7 +37,7 @@ tables f =
     let below : (m : ℕ) → m < 2 ^ start f .args .day .trains → m < start f .args .size = λ m h. omega (arith, start f .pre .1 .0) in
     record {
       needs = f .before .before .before .before .before .before .before .before .before .before .before .before .fill-needing .ensures .all;
-      lates = λ m h. f .before .before .before .before .before .before .before .before .before .fill-late .ensures .0 .all m (below m h);
+      lates = f .before .before .before .before .before .before .before .before .before .fill-late .ensures .0 .all;
       prices = λ m h. f .before .before .before .before .before .fill-price .ensures .0 .all m (below m h);
       under = λ m h o. omega (arith, f .before .before .before .before .before .fill-price .ensures .1 m (below m h) o);
       windows = f .fill-open .ensures .all;
@@ -59,7 +59,9 @@ slice-aggregate-fill-late : tie.Need-slice-aggregate-fill-late
 slice-aggregate-fill-late c = search needs
 
 fill-late-requires : tie.Need-fill-late-requires
-fill-late-requires c κs = (least (c .before .before .before .before .before .before .before .before .before .before .before) .weights .0, small (c .before .before .before .before .before .before .before .before .before .before .before), small (c .before .before .before .before .before .before .before .before .before .before .before))
+fill-late-requires c κs =
+    let s = c .before .before .before .before .before .before .before .before .before .before .before in
+    (least s .weights .0, least s .trains .1, subst (λ k. k ≤ 4096) (s .pre .1 .0) (small s))
 
 slice-aggregate-fill-price : tie.Need-slice-aggregate-fill-price
 slice-aggregate-fill-price c = search needs
@@ -110,7 +112,7 @@ solve-requires c κs =
         lates = long _ (f .before .before .before .before .before .before .before .before .before .fill-late .kept .0);
         prices = long _ (f .before .before .before .before .before .fill-price .kept .0);
         opened = subst (λ k. s .args .day .slots ≤ k) (sym (f .fill-open .kept .0)) slots;
-        small = f .before .before .before .before .before .before .before .before .before .fill-late .ensures .1;
+        small = λ m h. f .before .before .before .before .before .before .before .before .before .fill-late .ensures .1 m (omega (arith, s .pre .1 .0));
       },
       record { few = least s .tracks .1; enough = λ m h. room-enough (tables f) m (omega (arith, s .pre .1 .0)) },
       s .pre .1 .1 .0,

@@ -1,104 +1,110 @@
--- `tables::add_train` meets its contract. The loop's invariant: the sets without the train, and those passed with it.
+-- `tables::add_train` meets its contract. The loop's invariant: the sets without train k, and those with it of the `below` sets of the
+-- trains passed.
 -- Assumes nothing.
-use Prim.Native.Nat.{_≤_, _+_, _-_, _*_}
-use mathlib.Core.Path.{_≡_, refl}
+use Prim.Native.Nat.{ℕ, _≤_, _+_, _-_, _*_, _^_}
+use mathlib.Core.Path.{_≡_, refl, sym, ap, _∙_}
 use borrow.Author.Needs.{needs}
 use native.Mathlib.Omega.{arith}
+use native.Mathlib.Numerals.{add-one}
+use native.Mathlib.Nat.{pow-suc}
+use lib.ListN.{set}
+use lib.Pow.{pow-pos}
+use Rattle.fold.specs.Fold.{at-end}
 use Rattle.model.specs.Model.{cell}
 use Rattle.staging.specs.Tables.{fromOutside}
+use Rattle.tables.specs.Given.{given-pair}
+use Rattle.tables.specs.Filled.{Filled, filled-next, filled-end, filled-here, filled-since}
 use Rattle.tables.specs.Needing.{sets-fit}
-use Rattle.tables.specs.Splits.{Counted, counted-none, counted-step, counted-most, counted-next, counted-end}
+use Rattle.tables.specs.Prices.{Joinable, pair-joinable, pair-next}
 use Rattle.tables.proofs.add_train.Statement.{statement}
 use Rattle.tables.proofs.add_train.Tie as tie
 
 abbrev Inv-loop : tie.InvT-loop
-Inv-loop price₀ boxes width n k size m₀ price m = (m ≤ size) × Counted n (cell width boxes) (k + 1) (size + m) price₀ price
+Inv-loop price₀ boxes width n k size below₀ b₀ price below b = (b ≤ k) × (below ≡ 2 ^ b) × Filled (fromOutside n (cell width boxes)) (size + below) price₀ price
 
 abbrev μ-loop : tie.MeasureT-loop
-μ-loop price₀ boxes width n k size m₀ price m = size - m
+μ-loop price₀ boxes width n k size below₀ b₀ price below b = k - b
 
--- at most 4096 sets
-small : (s : tie.Start Inv-loop μ-loop) → s .args .size ≤ 4096
-small s = let room = sets-fit (s .args .k) (s .args .n) (s .args .size) (s .pre .2) (s .pre .1) (s .pre .0 .few) in omega arith
+-- at most 4096 sets, and one at least
+small : (s : tie.Start Inv-loop μ-loop) → (1 ≤ s .args .size) × (s .args .size ≤ 4096)
+small s =
+    let room = sets-fit (s .args .k) (s .args .n) (s .args .size) (s .pre .2) (s .pre .1) (s .pre .0 .few) in
+    omega (arith, pow-pos (s .args .k), s .pre .2)
 
--- the word of the set m with the train: its split moves, and their bound
-abbrev Word : tie.After-inside-from Inv-loop μ-loop → Type 0
-Word c =
-    let s = c .before .before .before .before .before .before .before .before in
-    let x = c .before .before .wide32 .result + c .before .outside-to .result in
-    (c .inside-from .result ≤ x)
-    × (x - c .inside-from .result ≡ fromOutside (s .args .n) (cell (s .args .width) (s .args .boxes .now)) (s .args .size + c .before .before .before .before .before .loop .m))
-    × (x - c .inside-from .result ≤ 3060 * (s .args .k + 1))
+-- the train alone
+alone : (c : tie.After-received-by Inv-loop μ-loop) → let s = c .before .before .before in
+    Filled (fromOutside (s .args .n) (cell (s .args .width) (s .args .boxes .now))) (s .args .size + 1) (s .args .price .now) (set (s .args .price .now) (s .args .size) (c .received-by .result))
+alone c =
+    let s = c .before .before .before in
+    let some = small s in
+    filled-next _ (s .pre .4) (omega arith) (c .received-by .ensures ∙ ap (fromOutside (s .args .n) (cell (s .args .width) (s .args .boxes .now))) (sym (s .pre .2)))
 
-word : (c : tie.After-inside-from Inv-loop μ-loop) → Word c
-word c =
-    let s = c .before .before .before .before .before .before .before .before in
-    let l = c .before .before .before .before .before .loop in
-    let below = c .before .before .before .before .loop-test .taken in
-    let equation = counted-step (s .args .k) (s .args .size) (l .m) (l .inv .1) (s .pre .2) (s .pre .1) below in
-    let most = counted-most (s .args .k) (s .args .size) (l .m) (s .pre .4) (l .inv .1) below in
-    let old = c .before .before .wide32 .ensures .0 in
-    let more = c .before .outside-to .ensures in
-    let less = c .inside-from .ensures in
-    (omega arith, omega arith, omega arith)
+-- what `join_pair` is given, with the boxes between the two trains
+joinable : (c : tie.After-between Inv-loop μ-loop) → let s = c .before .before .before .before .before .before .before in
+    let l = c .before .before .before .loop in
+    Joinable (s .args .size) (l .below) (c .between .result) (l .price)
+joinable c =
+    let s = c .before .before .before .before .before .before .before in
+    let l = c .before .before .before .loop in
+    let one = c .before .before .before .before in
+    let known = one .before .shared-slice-known in
+    let long = l .inv .2 .kept .long ∙ alone one .kept .long in
+    pair-joinable (s .args .n) (cell (s .args .width) (s .args .boxes .now)) (s .args .size) (l .below) (l .inv .2) (s .args .k) (l .b) (s .pre .2) (l .inv .1) (s .pre .1) (c .before .before .loop-test .taken)
+    (c .between .result) (c .between .ensures) (s .pre .0 .few) (λ i j. let fit = known .given (i * s .args .width + j) in omega arith) (omega arith)
 
-loop-holds : tie.Need-loop-holds Inv-loop μ-loop
-loop-holds c = (search needs, counted-none _ _ (c .before .before .pre .4))
-
-mul-wide32 : tie.Need-mul-wide32 Inv-loop μ-loop
-mul-wide32 c = search needs
-
-slice-read-wide32 : tie.Need-slice-read-wide32 Inv-loop μ-loop
-slice-read-wide32 c = let long = c .before .before .loop .inv .1 .filled .kept .long in omega arith
-
-wide32-requires : tie.Need-wide32-requires Inv-loop μ-loop
-wide32-requires c κs = search needs
-
-add-outside-to : tie.Need-add-outside-to Inv-loop μ-loop
-add-outside-to c = let few = small (c .before .before .before .before .before .before) in omega arith
-
-outside-to-requires : tie.Need-outside-to-requires Inv-loop μ-loop
-outside-to-requires c κs = let s = c .before .before .before .before .before .before in (s .pre .0, s .pre .1)
-
-add-most : tie.Need-add-most Inv-loop μ-loop
-add-most c = let old = c .before .wide32 .ensures in let more = c .outside-to .ensures in omega arith
-
-inside-from-requires : tie.Need-inside-from-requires Inv-loop μ-loop
-inside-from-requires c κs = let s = c .before .before .before .before .before .before .before in (s .pre .0, s .pre .1)
-
-sub-price : tie.Need-sub-price Inv-loop μ-loop
-sub-price c = word c .0
-
-cast-price : tie.Need-cast-price Inv-loop μ-loop
-cast-price c = let most = word c .2 in let s = c .before .before .before .before .before .before .before .before in let few = s .pre .0 .few in let k = s .pre .1 in omega arith
-
-add-price : tie.Need-add-price Inv-loop μ-loop
-add-price c = let few = small (c .before .before .before .before .before .before .before .before) in omega arith
+received-by-requires : tie.Need-received-by-requires Inv-loop μ-loop
+received-by-requires c κs = let s = c .before .before in (s .pre .0, s .pre .1)
 
 mul-price : tie.Need-mul-price Inv-loop μ-loop
-mul-price c = let few = small (c .before .before .before .before .before .before .before .before) in omega arith
+mul-price c = let few = small (c .before .before .before) in omega arith
 
 slice-write-price : tie.Need-slice-write-price Inv-loop μ-loop
-slice-write-price c = let long = c .before .before .before .before .before .loop .inv .1 .filled .kept .long in omega arith
+slice-write-price c = let few = small (c .before .before .before) in omega arith
 
-add-m : tie.Need-add-m Inv-loop μ-loop
-add-m c = search needs
+loop-holds : tie.Need-loop-holds Inv-loop μ-loop
+loop-holds c = (search needs, refl, filled-here (alone c))
+
+between-requires : tie.Need-between-requires Inv-loop μ-loop
+between-requires c κs =
+    let s = c .before .before .before .before .before .before in
+    let k = s .pre .1 in
+    let b = c .before .loop-test .taken in
+    (given-pair (s .pre .0) k (omega arith), given-pair (s .pre .0) (omega arith) k)
+
+join-pair-requires : tie.Need-join-pair-requires Inv-loop μ-loop
+join-pair-requires c κs = joinable c
+
+add-below : tie.Need-add-below Inv-loop μ-loop
+add-below c = let few = joinable (c .before .before .before) in let size = few .few in let below = few .apart in omega arith
+
+add-b : tie.Need-add-b Inv-loop μ-loop
+add-b c = search needs
 
 loop-less : tie.Need-loop-less Inv-loop μ-loop
 loop-less c = search needs
 
 loop-again : tie.Need-loop-again Inv-loop μ-loop
 loop-again c =
-    let s = c .before .before .before .before .before .before .before .before in
-    let l = c .before .before .before .before .before .loop in
-    let long = l .inv .1 .filled .kept .long in
-    (search needs, counted-next (s .args .k) (s .args .size) (l .m) _ (l .inv .1) (omega arith) (word c .1) (word c .2))
+    let j = c .before .before .before in
+    let s = j .before .before .before .before .before .before .before in
+    let l = j .before .before .before .loop in
+    let twice = ap (λ x. 2 ^ x) (add-one (l .b)) ∙ pow-suc 2 (l .b) in (
+      search needs,
+      omega (arith, l .inv .1),
+      pair-next (s .args .n) (cell (s .args .width) (s .args .boxes .now)) (s .args .size) (l .below) (l .inv .2) (s .args .k) (l .b) (s .pre .2) (l .inv .1) (s .pre .1) (j .before .before .loop-test .taken)
+          (j .between .result) (j .between .ensures) (c .before .before .join-pair .ensures),
+    )
 
 same-length : tie.Need-same-length Inv-loop μ-loop
-same-length c = c .before .loop .inv .1 .filled .kept .long
+same-length c = c .before .loop .inv .2 .kept .long ∙ alone (c .before .before) .kept .long
 
 returns : tie.Need-returns Inv-loop μ-loop
-returns c = counted-end _ _ (c .before .loop .inv .1) refl (omega arith)
+returns c =
+    let s = c .before .before .before .before .before in
+    let l = c .before .loop in
+    let some = small s in
+    let end = l .inv .1 ∙ at-end (λ b. 2 ^ b) (l .b) (s .args .k) (l .inv .0) (c .loop-test .left) ∙ sym (s .pre .2) in
+    filled-since (alone (c .before .before)) (omega arith) (filled-end (s .args .size + s .args .size) (l .inv .2) (omega arith) (omega arith))
 
 pub add-train-spec : {M : Type 1} → statement M
 add-train-spec =
@@ -106,20 +112,14 @@ add-train-spec =
     (tie.spec
     Inv-loop
     μ-loop
-    loop-holds
-    mul-wide32
-    slice-read-wide32
-    wide32-requires
-    add-outside-to
-    outside-to-requires
-    add-most
-    inside-from-requires
-    sub-price
-    cast-price
-    add-price
+    received-by-requires
     mul-price
     slice-write-price
-    add-m
+    loop-holds
+    between-requires
+    join-pair-requires
+    add-below
+    add-b
     loop-less
     loop-again
     same-length

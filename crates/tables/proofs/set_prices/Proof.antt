@@ -7,7 +7,7 @@ use native.Mathlib.Omega.{arith}
 use Rattle.optimum.specs.Workspace.{at}
 use Rattle.tables.specs.Entries.{priceOf}
 use Rattle.tables.specs.Filled.{Filled, filled-none, filled-next, filled-end}
-use Rattle.tables.specs.Splits.{unread}
+use Rattle.tables.specs.Prices.{unread}
 use Rattle.tables.proofs.set_prices.Statement.{statement}
 use Rattle.tables.proofs.set_prices.Tie as tie
 
