@@ -1,18 +1,29 @@
-/* The planning call in C: the algorithm of crates/planning with its tables and types, unproved, to time the proved one against. With
- * -DPLAIN the plain algorithm, which walks every cell of every slot: what the proved call's own steps save.
+/* The answer to a day file in C: what yard_answer of include/yard.h does, unproved, to measure the proved one against. Reading trusts the
+ * text (it is for day files only); planning is the algorithm of crates/planning with its tables and types, step by step; the answer is
+ * printed as yard-plan prints it. With -DPLAIN the plain algorithm, which walks every cell of every slot: what the proved call's own
+ * steps save.
  *
- * Reads a day file from standard input (trusting its form; what it cannot read gives a record of zeros), plans it PLANS times in the same
- * areas, and prints what crates/plan_speed prints: revisits, split moves and cost; the row; the words of the two areas joined by exclusive
- * or (which differ with -DPLAIN: it fills more cells).
+ * One function, ANSWER, whose name the compiler's command line gives, so that one process can hold this file compiled in several ways.
  */
+#include <stddef.h>
 #include <stdint.h>
-#include <stdio.h>
 #include <string.h>
 
-enum { PLANS = 20, WIDTH = 12, SETS = 4096, SLOTS = 8 };
+#ifndef ANSWER
+#define ANSWER c_answer
+#endif
+
+enum { WIDTH = 12, SETS = 4096, SLOTS = 8, ANSWER_BYTES = 124 };
 
 #define NONE UINT64_MAX
 #define BARRED UINT32_MAX
+
+/* The proved code's local arrays begin as zeros; the plain program does without, since it writes each word before it reads it. */
+#ifdef PLAIN
+#define ZEROS
+#else
+#define ZEROS = {0}
+#endif
 
 struct day {
     size_t trains;
@@ -54,15 +65,23 @@ static int is_sound(const struct day *d)
 
 /* ---- feasibility, as feasibility::first_overbooked */
 
-static int is_overbooked(const struct day *d)
+struct interval {
+    unsigned first, last;
+    uint64_t trains;
+};
+
+/* Answers 0 where no stretch of slots is overbooked, else 1 and the first one. */
+static int first_overbooked(const struct day *d, struct interval *found)
 {
     for (unsigned a = 1; a <= d->slots; a++) {
         for (unsigned b = a; b <= d->slots; b++) {
             uint64_t trains = 0;
             for (size_t i = 0; i < d->trains; i++)
                 trains += a <= d->first[i] && d->last[i] <= b;
-            if ((uint64_t)d->tracks * (b - a + 1) < trains)
+            if ((uint64_t)d->tracks * (b - a + 1) < trains) {
+                *found = (struct interval){a, b, trains};
                 return 1;
+            }
         }
     }
     return 0;
@@ -276,88 +295,147 @@ static struct value value_slots(const struct day *d, const uint8_t *row)
     return v;
 }
 
-/* Answers 0 where the day has no plan. */
-__attribute__((noinline)) static int plan(const struct day *d, uint64_t *cost, uint16_t *choice, uint8_t *row, struct value *v)
+/* ---- planning, as planning::plan on a day that has a plan */
+
+static struct value plan(const struct day *d, uint8_t *row)
 {
-    uint16_t need[SETS] = {0};
-    uint32_t late[SETS] = {0}, price[SETS] = {0};
-    uint64_t opens[SLOTS] = {0};
-    size_t size;
-    if (!is_sound(d) || is_overbooked(d))
-        return 0;
-    size = (size_t)1 << d->trains;
+    uint64_t cost[SETS] ZEROS;
+    uint16_t choice[SLOTS * SETS] ZEROS;
+    uint16_t need[SETS] ZEROS;
+    uint32_t late[SETS] ZEROS, price[SETS] ZEROS;
+    uint64_t opens[SLOTS] ZEROS;
+    size_t size = (size_t)1 << d->trains;
     fill_needing(need, d->boxes, d->trains);
     fill_late(late, d->revisit, d->trains);
     fill_price(price, d->boxes, d->trains, size, d->tracks, d->split);
     fill_open(opens, d);
     solve(cost, choice, need, late, price, opens, d->tracks, d->slots, size);
     trace(choice, row, d->trains, d->slots, size);
-    *v = value_slots(d, row);
-    return 1;
+    return value_slots(d, row);
 }
 
-static int read_day(struct day *d)
+/* ---- reading a day file, as dayread::read_day on a text that it accepts */
+
+static const uint8_t *after_line(const uint8_t *at)
 {
-    unsigned n, tracks, slots, revisit, split, a, b, c;
+    while (*at != '\n')
+        at++;
+    return at + 1;
+}
+
+/* Reads a value and the one byte after it, a space or the end of the line. */
+static uint32_t read_value(const uint8_t **at)
+{
+    uint32_t v = 0;
+    for (; '0' <= **at; ++*at)
+        v = 10 * v + (uint32_t)(**at - '0');
+    ++*at;
+    return v;
+}
+
+static size_t position_of(const struct day *d, uint32_t number)
+{
+    size_t i = 0;
+    while (d->numbers[i] != number)
+        i++;
+    return i;
+}
+
+static void read_day(struct day *d, const uint8_t *text, size_t length)
+{
+    const uint8_t *end = text + length;
+    const uint8_t *at = after_line(text);
     memset(d, 0, sizeof *d);
-    if (scanf("trains tracks slots revisit split %u %u %u %u %u train first last", &n, &tracks, &slots, &revisit, &split) != 5 || n > WIDTH)
-        return 0;
-    d->trains = n;
-    d->tracks = tracks;
-    d->slots = (uint8_t)slots;
-    d->revisit = revisit;
-    d->split = split;
-    for (size_t i = 0; i < n; i++) {
-        if (scanf("%u %u %u", &a, &b, &c) != 3)
-            return 0;
-        d->numbers[i] = a;
-        d->first[i] = (uint8_t)b;
-        d->last[i] = (uint8_t)c;
+    d->trains = read_value(&at);
+    d->tracks = read_value(&at);
+    d->slots = (uint8_t)read_value(&at);
+    d->revisit = read_value(&at);
+    d->split = read_value(&at);
+    at = after_line(at);
+    for (size_t i = 0; i < d->trains; i++) {
+        d->numbers[i] = read_value(&at);
+        d->first[i] = (uint8_t)read_value(&at);
+        d->last[i] = (uint8_t)read_value(&at);
     }
-    scanf(" to from boxes");
-    while (scanf("%u %u %u", &a, &b, &c) == 3) {
-        size_t i = 0, j = 0;
-        while (i < n && d->numbers[i] != a)
-            i++;
-        while (j < n && d->numbers[j] != b)
-            j++;
-        if (i == n || j == n)
-            return 0;
-        d->boxes[i * WIDTH + j] = (uint8_t)c;
+    at = after_line(at);
+    while (at < end) {
+        size_t to = position_of(d, read_value(&at));
+        size_t from = position_of(d, read_value(&at));
+        d->boxes[to * WIDTH + from] = (uint8_t)read_value(&at);
     }
-    return 1;
 }
 
-int main(void)
+/* ---- printing, as crates/planfile and crates/answering */
+
+static uint8_t *put_bytes(uint8_t *at, const char *word)
 {
-    static uint64_t cost[SETS];
-    static uint16_t choice[SLOTS * SETS];
-    static uint8_t row[WIDTH];
-    uint64_t *lent_cost = cost;
-    uint16_t *lent_choice = choice;
-    uint8_t *lent_row = row;
-    struct day d;
-    struct value v = {0, 0, 0};
-    uint64_t costs = 0;
-    uint16_t choices = 0;
-    int planned = 0;
-    if (!read_day(&d))
-        memset(&d, 0, sizeof d);
-    for (int k = 0; k < PLANS; k++) {
-        /* To the compiler the areas may lie anywhere and have changed: no turn is left out, and plan is compiled for any areas. */
-        __asm__ volatile("" : "+r"(lent_cost), "+r"(lent_choice), "+r"(lent_row) : "r"(&d) : "memory");
-        planned = plan(&d, lent_cost, lent_choice, lent_row, &v);
+    size_t length = strlen(word);
+    memcpy(at, word, length);
+    return at + length;
+}
+
+static uint8_t *put_value(uint8_t *at, uint64_t v, uint8_t end)
+{
+    uint8_t digits[20];
+    size_t count = 0;
+    do {
+        digits[count++] = (uint8_t)('0' + v % 10);
+        v /= 10;
+    } while (v > 0);
+    while (count > 0)
+        *at++ = digits[--count];
+    *at++ = end;
+    return at;
+}
+
+static uint8_t *put_interval(uint8_t *at, struct interval found)
+{
+    at = put_bytes(at, "refusal first last trains\n");
+    at = put_value(at, 9, ' ');
+    at = put_value(at, found.first, ' ');
+    at = put_value(at, found.last, ' ');
+    return put_value(at, found.trains, '\n');
+}
+
+static uint8_t *put_plan(uint8_t *at, const struct day *d, const uint8_t *row, struct value v)
+{
+    at = put_bytes(at, "revisits splits cost\n");
+    at = put_value(at, v.revisits, ' ');
+    at = put_value(at, v.splits, ' ');
+    at = put_value(at, v.cost, '\n');
+    at = put_bytes(at, "train slot\n");
+    for (size_t i = 0; i < d->trains; i++) {
+        at = put_value(at, d->numbers[i], ' ');
+        at = put_value(at, row[i], '\n');
     }
-    if (planned)
-        printf("%llu %llu %llu\n", (unsigned long long)v.revisits, (unsigned long long)v.splits, (unsigned long long)v.cost);
-    else
-        puts("no plan");
-    for (size_t i = 0; i < WIDTH; i++)
-        printf("%u ", row[i]);
-    for (size_t i = 0; i < SETS; i++)
-        costs ^= cost[i];
-    for (size_t i = 0; i < (size_t)SLOTS * SETS; i++)
-        choices ^= choice[i];
-    printf("\n%llu %u\n", (unsigned long long)costs, choices);
+    return at;
+}
+
+/* ---- the answer, as yard_answer: 10 where out is too short, else 0 */
+
+static size_t put_answer(const uint8_t *text, size_t length, uint8_t *reply)
+{
+    struct day d;
+    struct interval found;
+    uint8_t row[WIDTH] = {0};
+    read_day(&d, text, length);
+    if (!is_sound(&d))
+        return 0; /* no day file: outside what this program is for */
+    if (first_overbooked(&d, &found))
+        return (size_t)(put_interval(reply, found) - reply);
+    return (size_t)(put_plan(reply, &d, row, plan(&d, row)) - reply);
+}
+
+uint64_t ANSWER(const uint8_t *text, size_t text_length, uint8_t *out, size_t out_length, size_t *bytes);
+
+uint64_t ANSWER(const uint8_t *text, size_t text_length, uint8_t *out, size_t out_length, size_t *bytes)
+{
+    uint8_t reply[ANSWER_BYTES] = {0};
+    size_t count = put_answer(text, text_length, reply);
+    *bytes = 0;
+    if (out_length < count)
+        return 10;
+    memcpy(out, reply, count);
+    *bytes = count;
     return 0;
 }

@@ -1,0 +1,414 @@
+/* Holds the proved library and the C programs of bench/plan.c to each other in one process: the same bytes for every day, then the time
+ * of the proved answer divided by that of each C program. bench/run builds and calls it, with -DCOMPILERS='C(gcc) C(clang)' for the
+ * compilers whose same_gcc, plain_gcc, same_clang, plain_clang are linked.
+ *
+ *     compare ROUNDS                checks all days, measures them in ROUNDS rounds, prints the tables
+ *     compare days FOLDER           writes the days as day files, for bench/solver
+ *     compare time FILE ROUNDS      prints the nanoseconds of the least proved call on a day file, for bench/solver
+ *     compare answer FUNCTION DAY   one call, for instruction counts (bench/run counts)
+ */
+#define _POSIX_C_SOURCE 200809L
+#include <stdio.h>
+#include <stdlib.h>
+#include <string.h>
+#include <time.h>
+
+#include "yard.h"
+
+/* ---- the functions: the proved one, then the same algorithm by each compiler, then the plain one by each */
+
+typedef uint64_t answer_function(const uint8_t *text, size_t text_length, uint8_t *out, size_t out_length, size_t *bytes);
+
+#define C(compiler) answer_function same_##compiler, plain_##compiler;
+COMPILERS
+#undef C
+
+struct function {
+    const char *name;
+    answer_function *answer;
+};
+
+static const struct function functions[] = {
+    {"yard_answer", yard_answer},
+#define C(compiler) {"same_" #compiler, same_##compiler},
+    COMPILERS
+#undef C
+#define C(compiler) {"plain_" #compiler, plain_##compiler},
+    COMPILERS
+#undef C
+};
+
+enum { FUNCTIONS = sizeof functions / sizeof *functions, COMPILED = (FUNCTIONS - 1) / 2, PROVED = 0, SAME = 1, PLAIN = 1 + COMPILED };
+
+/* ---- the days, as texts */
+
+/* A day file has at most 1,765 bytes. */
+enum { MOST_TEXT = 4096, MOST_DAYS = 64, MOST_TRAINS = 12, PER_PROBABILITY = 5 };
+
+enum group { MAIN, PUBLISHED, GROWTH, WINDOWS, REFUSED };
+
+struct day {
+    enum group group;
+    char name[24];
+    unsigned trains, tracks, slots, revisit, split;
+    unsigned first[MOST_TRAINS], last[MOST_TRAINS];
+    unsigned boxes[MOST_TRAINS][MOST_TRAINS];
+    unsigned tenths; /* the probability of a pair's boxes, where they are drawn */
+    char text[MOST_TEXT];
+    size_t length;
+    unsigned calls;          /* in one measurement */
+    double least[FUNCTIONS]; /* nanoseconds of a call */
+};
+
+static struct day days[MOST_DAYS];
+static size_t day_count;
+
+/* Ends with status 1: what is measured must be the same answers. */
+static void fail(const char *day, const char *what)
+{
+    fprintf(stderr, "compare: %s: %s\n", day, what);
+    exit(1);
+}
+
+/* A day without boxes, all windows open. */
+static struct day *new_day(enum group group, const char *name, unsigned trains, unsigned tracks, unsigned slots)
+{
+    struct day *d = &days[day_count++];
+    d->group = group;
+    snprintf(d->name, sizeof d->name, "%s", name);
+    d->trains = trains;
+    d->tracks = tracks;
+    d->slots = slots;
+    d->revisit = d->split = 1;
+    for (size_t i = 0; i < trains; i++) {
+        d->first[i] = 1;
+        d->last[i] = slots;
+    }
+    return d;
+}
+
+/* Boxes between all pairs, by a formula in the trains' numbers. */
+static void fill_boxes(struct day *d)
+{
+    d->revisit = 100;
+    for (unsigned i = 1; i <= d->trains; i++)
+        for (unsigned j = 1; j <= d->trains; j++)
+            d->boxes[i - 1][j - 1] = i == j ? 0 : (7 * i * i + 13 * j + 5 * i * j) % 40 + 1;
+}
+
+/* The generator splitmix64: the same draws on every machine. */
+static uint64_t draw(uint64_t *state)
+{
+    uint64_t z = *state += 0x9e3779b97f4a7c15u;
+    z = (z ^ (z >> 30)) * 0xbf58476d1ce4e5b9u;
+    z = (z ^ (z >> 27)) * 0x94d049bb133111ebu;
+    return z ^ (z >> 31);
+}
+
+/* Boxes as section 5.1 of the source draws them: each ordered pair with a probability, given in tenths, then 1 to 10 alike. */
+static void draw_boxes(struct day *d, unsigned tenths, uint64_t seed)
+{
+    d->tenths = tenths;
+    for (size_t i = 0; i < d->trains; i++)
+        for (size_t j = 0; j < d->trains; j++)
+            if (i != j && draw(&seed) % 10 < tenths)
+                d->boxes[i][j] = (unsigned)(draw(&seed) % 10) + 1;
+}
+
+/* Two slots to each train, the trains spread over the slots. */
+static void narrow_windows(struct day *d)
+{
+    for (unsigned i = 0; i < d->trains; i++) {
+        d->first[i] = i * (d->slots - 1) / d->trains + 1;
+        d->last[i] = d->first[i] + 1;
+    }
+}
+
+static void add_line(struct day *d, const char *line)
+{
+    size_t length = strlen(line);
+    if (sizeof d->text <= d->length + length)
+        fail(d->name, "the text is too long");
+    memcpy(d->text + d->length, line, length);
+    d->length += length;
+}
+
+static void write_text(struct day *d)
+{
+    char line[64];
+    add_line(d, "trains tracks slots revisit split\n");
+    snprintf(line, sizeof line, "%u %u %u %u %u\n", d->trains, d->tracks, d->slots, d->revisit, d->split);
+    add_line(d, line);
+    add_line(d, "train first last\n");
+    for (unsigned i = 0; i < d->trains; i++) {
+        snprintf(line, sizeof line, "%u %u %u\n", i + 1, d->first[i], d->last[i]);
+        add_line(d, line);
+    }
+    add_line(d, "to from boxes\n");
+    for (unsigned i = 0; i < d->trains; i++) {
+        for (unsigned j = 0; j < d->trains; j++) {
+            if (d->boxes[i][j] > 0) {
+                snprintf(line, sizeof line, "%u %u %u\n", i + 1, j + 1, d->boxes[i][j]);
+                add_line(d, line);
+            }
+        }
+    }
+}
+
+static void make_days(void)
+{
+    char name[24];
+    fill_boxes(new_day(MAIN, "open", 12, 12, 8));
+    fill_boxes(new_day(MAIN, "tight", 12, 2, 8));
+    fill_boxes(new_day(MAIN, "paper", 12, 3, 4));
+    for (unsigned tenths = 2; tenths <= 8; tenths += 2) {
+        for (unsigned k = 1; k <= PER_PROBABILITY; k++) {
+            snprintf(name, sizeof name, "p%u-%u", tenths, k);
+            draw_boxes(new_day(PUBLISHED, name, 12, 3, 4), tenths, 1000 * tenths + k);
+        }
+    }
+    for (unsigned n = 4; n <= 12; n++) {
+        snprintf(name, sizeof name, "n%u", n);
+        draw_boxes(new_day(GROWTH, name, n, 3, 4), 5, 20000 + n);
+    }
+    struct day *d = new_day(WINDOWS, "windows", 12, 3, 7);
+    draw_boxes(d, 5, 30000);
+    narrow_windows(d);
+    fill_boxes(new_day(REFUSED, "refused", 12, 1, 8));
+    for (size_t k = 0; k < day_count; k++)
+        write_text(&days[k]);
+}
+
+/* ---- the same bytes from all */
+
+/* Calls a function over an output of one byte value, so that a byte written beyond the answer shows. */
+static size_t answer_into(const struct function *f, const struct day *d, uint8_t *out)
+{
+    size_t bytes = 0;
+    memset(out, 0xaa, YARD_ANSWER_BYTES);
+    if (f->answer((const uint8_t *)d->text, d->length, out, YARD_ANSWER_BYTES, &bytes) != 0)
+        fail(d->name, "an answer was refused");
+    return bytes;
+}
+
+static void check_day(const struct day *d)
+{
+    uint8_t proved[YARD_ANSWER_BYTES], other[YARD_ANSWER_BYTES];
+    char what[64];
+    size_t bytes = answer_into(&functions[PROVED], d, proved);
+    const char *begin = d->group == REFUSED ? "refusal first last trains\n" : "revisits splits cost\n";
+    if (bytes < strlen(begin) || memcmp(proved, begin, strlen(begin)) != 0)
+        fail(d->name, "the answer is of another kind than the day was made for");
+    for (size_t k = 1; k < FUNCTIONS; k++) {
+        snprintf(what, sizeof what, "%s gives another answer", functions[k].name);
+        if (answer_into(&functions[k], d, other) != bytes || memcmp(proved, other, sizeof proved) != 0)
+            fail(d->name, what);
+    }
+}
+
+/* ---- time */
+
+static double now(void)
+{
+    struct timespec t;
+    clock_gettime(CLOCK_MONOTONIC, &t);
+    return (double)t.tv_sec * 1e9 + (double)t.tv_nsec;
+}
+
+/* Nanoseconds of a call, over as many calls as the day has in one measurement. */
+static double time_call(const struct function *f, const struct day *d)
+{
+    uint8_t out[YARD_ANSWER_BYTES];
+    size_t bytes;
+    double from = now();
+    for (unsigned k = 0; k < d->calls; k++)
+        f->answer((const uint8_t *)d->text, d->length, out, sizeof out, &bytes);
+    return (now() - from) / d->calls;
+}
+
+/* So many calls that a measurement takes at least a fifth of a millisecond, which the clock's own cost does not touch. */
+static void choose_calls(struct day *d)
+{
+    d->calls = 1;
+    while (d->calls < 1000 && time_call(&functions[PROVED], d) * d->calls < 2e5)
+        d->calls *= 2;
+}
+
+/* In each round every day and function has its turn, so a busy moment of the machine falls on all alike; the first one changes. */
+static void measure(unsigned rounds)
+{
+    for (unsigned round = 0; round < rounds; round++) {
+        for (size_t k = 0; k < day_count; k++) {
+            for (size_t turn = 0; turn < FUNCTIONS; turn++) {
+                size_t f = (turn + round) % FUNCTIONS;
+                double t = time_call(&functions[f], &days[k]);
+                if (round == 0 || t < days[k].least[f])
+                    days[k].least[f] = t;
+            }
+        }
+    }
+}
+
+/* ---- the tables */
+
+/* The least times of several days, added for each function. */
+struct total {
+    double least[FUNCTIONS];
+};
+
+static void add_day(struct total *sum, const struct day *d)
+{
+    for (size_t f = 0; f < FUNCTIONS; f++)
+        sum->least[f] += d->least[f];
+}
+
+static double fastest(const struct total *sum, size_t from)
+{
+    double best = sum->least[from];
+    for (size_t f = from + 1; f < from + COMPILED; f++)
+        if (sum->least[f] < best)
+            best = sum->least[f];
+    return best;
+}
+
+/* The line above a table; its last column, which not every table has, is named by last. */
+static void print_head(const char *title, const char *last)
+{
+    printf("\n%-52s %10s %10s", title, "same C", "plain C");
+    for (size_t f = 1; f < FUNCTIONS; f++)
+        printf(" %12s", functions[f].name);
+    printf("%s\n", last);
+}
+
+static void print_ratios(const char *label, const struct total *sum)
+{
+    double proved = sum->least[PROVED];
+    printf("%-52s %10.2f %10.2f", label, proved / fastest(sum, SAME), proved / fastest(sum, PLAIN));
+    for (size_t f = 1; f < FUNCTIONS; f++)
+        printf(" %12.2f", proved / sum->least[f]);
+}
+
+static void print_day(const struct day *d)
+{
+    char label[64];
+    struct total sum = {{0}};
+    add_day(&sum, d);
+    snprintf(label, sizeof label, "%s: %u trains, %u tracks, %u slots", d->name, d->trains, d->tracks, d->slots);
+    print_ratios(label, &sum);
+}
+
+static void print_group(enum group group, const char *title)
+{
+    print_head(title, "");
+    for (size_t k = 0; k < day_count; k++) {
+        if (days[k].group == group) {
+            print_day(&days[k]);
+            putchar('\n');
+        }
+    }
+}
+
+/* The days of one probability together. */
+static void print_published(void)
+{
+    print_head("source 000, section 5: 12 trains, 3 tracks, 4 slots", "");
+    for (unsigned tenths = 2; tenths <= 8; tenths += 2) {
+        char label[64];
+        struct total sum = {{0}};
+        for (size_t k = 0; k < day_count; k++)
+            if (days[k].group == PUBLISHED && days[k].tenths == tenths)
+                add_day(&sum, &days[k]);
+        snprintf(label, sizeof label, "probability 0.%u, %d days", tenths, PER_PROBABILITY);
+        print_ratios(label, &sum);
+        putchar('\n');
+    }
+}
+
+/* How the cost grows with the trains: beside the ratios the proved answer's time, that of the fewest trains being 1. */
+static void print_growth(void)
+{
+    const struct day *fewest = NULL;
+    print_head("growth: probability 0.5", "  proved time");
+    for (size_t k = 0; k < day_count; k++) {
+        if (days[k].group == GROWTH) {
+            if (!fewest)
+                fewest = &days[k];
+            print_day(&days[k]);
+            printf(" %12.1f\n", days[k].least[PROVED] / fewest->least[PROVED]);
+        }
+    }
+}
+
+static int compare(unsigned rounds)
+{
+    for (size_t k = 0; k < day_count; k++) {
+        check_day(&days[k]);
+        choose_calls(&days[k]);
+    }
+    printf("%zu days: the same bytes from all %d functions\n", day_count, FUNCTIONS);
+    measure(rounds);
+    printf("the proved answer's time divided by C's, least of %u rounds; 'same C' and 'plain C' are the faster compiler's\n", rounds);
+    print_group(MAIN, "main days");
+    print_published();
+    print_growth();
+    print_group(WINDOWS, "windows of two slots: probability 0.5");
+    return 0;
+}
+
+/* ---- for bench/solver and for the counts */
+
+static int write_days(const char *folder)
+{
+    char path[512];
+    for (size_t k = 0; k < day_count; k++) {
+        snprintf(path, sizeof path, "%s/%s.day", folder, days[k].name);
+        FILE *file = fopen(path, "wb");
+        if (!file || fwrite(days[k].text, 1, days[k].length, file) != days[k].length || fclose(file) != 0)
+            fail(path, "not written");
+    }
+    return 0;
+}
+
+static int time_file(const char *path, unsigned rounds)
+{
+    static struct day d;
+    FILE *file = fopen(path, "rb");
+    if (!file)
+        fail(path, "not read");
+    d.length = fread(d.text, 1, sizeof d.text, file);
+    fclose(file);
+    choose_calls(&d);
+    double least = time_call(&functions[PROVED], &d);
+    for (unsigned round = 1; round < rounds; round++) {
+        double t = time_call(&functions[PROVED], &d);
+        least = t < least ? t : least;
+    }
+    printf("%.0f\n", least);
+    return 0;
+}
+
+static int answer_once(const char *function, const char *day)
+{
+    uint8_t out[YARD_ANSWER_BYTES];
+    for (size_t f = 0; f < FUNCTIONS; f++)
+        for (size_t k = 0; k < day_count; k++)
+            if (strcmp(functions[f].name, function) == 0 && strcmp(days[k].name, day) == 0)
+                return fwrite(out, 1, answer_into(&functions[f], &days[k], out), stdout) == 0;
+    fail(day, "no such function or day");
+    return 1;
+}
+
+int main(int argc, char **argv)
+{
+    make_days();
+    if (argc == 2 && atoi(argv[1]) > 0)
+        return compare((unsigned)atoi(argv[1]));
+    if (argc == 3 && strcmp(argv[1], "days") == 0)
+        return write_days(argv[2]);
+    if (argc == 4 && strcmp(argv[1], "time") == 0)
+        return time_file(argv[2], (unsigned)atoi(argv[3]));
+    if (argc == 4 && strcmp(argv[1], "answer") == 0)
+        return answer_once(argv[2], argv[3]);
+    fprintf(stderr, "usage: compare ROUNDS | days FOLDER | time FILE ROUNDS | answer FUNCTION DAY\n");
+    return 2;
+}
