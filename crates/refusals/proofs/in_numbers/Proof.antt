@@ -1,0 +1,175 @@
+-- `refusals::in_numbers` meets its contract. Case by case.
+-- Assumes nothing.
+use mathlib.Core.Path.{refl}
+use borrow.Author.Needs.{needs}
+use Rattle.refusals.proofs.in_numbers.Statement.{statement}
+use Rattle.refusals.proofs.in_numbers.Tie as tie
+
+enum-known-refusal : tie.Need-enum-known-refusal
+enum-known-refusal c = search needs
+
+carrying-requires : tie.Need-carrying-requires
+carrying-requires c κs = search needs
+
+enum-known-refusal-2 : tie.Need-enum-known-refusal-2
+enum-known-refusal-2 c = search needs
+
+carrying-requires-2 : tie.Need-carrying-requires-2
+carrying-requires-2 c κs = search needs
+
+enum-known-refusal-3 : tie.Need-enum-known-refusal-3
+enum-known-refusal-3 c = search needs
+
+carrying-requires-3 : tie.Need-carrying-requires-3
+carrying-requires-3 c κs = search needs
+
+enum-known-refusal-4 : tie.Need-enum-known-refusal-4
+enum-known-refusal-4 c = search needs
+
+carrying-requires-4 : tie.Need-carrying-requires-4
+carrying-requires-4 c κs = search needs
+
+enum-known-refusal-5 : tie.Need-enum-known-refusal-5
+enum-known-refusal-5 c = search needs
+
+carrying-requires-5 : tie.Need-carrying-requires-5
+carrying-requires-5 c κs = search needs
+
+enum-known-refusal-6 : tie.Need-enum-known-refusal-6
+enum-known-refusal-6 c = search needs
+
+carrying-requires-6 : tie.Need-carrying-requires-6
+carrying-requires-6 c κs = search needs
+
+enum-known-refusal-7 : tie.Need-enum-known-refusal-7
+enum-known-refusal-7 c = search needs
+
+carrying-requires-7 : tie.Need-carrying-requires-7
+carrying-requires-7 c κs = search needs
+
+enum-told : tie.Need-enum-told
+enum-told c = search needs
+
+carrying-requires-8 : tie.Need-carrying-requires-8
+carrying-requires-8 c κs = search needs
+
+enum-known-refusal-8 : tie.Need-enum-known-refusal-8
+enum-known-refusal-8 c = search needs
+
+cast-t15 : tie.Need-cast-t15
+cast-t15 c = search needs
+
+cast-t16 : tie.Need-cast-t16
+cast-t16 c = search needs
+
+enum-told-2 : tie.Need-enum-told-2
+enum-told-2 c = search needs
+
+carrying-requires-9 : tie.Need-carrying-requires-9
+carrying-requires-9 c κs = search needs
+
+enum-told-3 : tie.Need-enum-told-3
+enum-told-3 c = search needs
+
+carrying-requires-10 : tie.Need-carrying-requires-10
+carrying-requires-10 c κs = search needs
+
+enum-known-refusal-9 : tie.Need-enum-known-refusal-9
+enum-known-refusal-9 c = search needs
+
+carrying-requires-11 : tie.Need-carrying-requires-11
+carrying-requires-11 c κs = search needs
+
+enum-known-refusal-10 : tie.Need-enum-known-refusal-10
+enum-known-refusal-10 c = search needs
+
+cast-carrying : tie.Need-cast-carrying
+cast-carrying c = search needs
+
+carrying-requires-12 : tie.Need-carrying-requires-12
+carrying-requires-12 c κs = search needs
+
+returns : tie.Need-returns
+returns c = rw (c .before .before .refusal .given .1) (c .carrying .ensures)
+
+returns-2 : tie.Need-returns-2
+returns-2 c = rw (c .before .before .refusal2 .given .1) (c .carrying2 .ensures)
+
+returns-3 : tie.Need-returns-3
+returns-3 c = rw (c .before .before .refusal3 .given .1) (c .carrying3 .ensures)
+
+returns-4 : tie.Need-returns-4
+returns-4 c = rw (c .before .before .refusal4 .given .1) (c .carrying4 .ensures)
+
+returns-5 : tie.Need-returns-5
+returns-5 c = rw (c .before .before .refusal5 .given .1) (c .carrying5 .ensures)
+
+returns-6 : tie.Need-returns-6
+returns-6 c = rw (c .before .before .refusal6 .given .1) (c .carrying6 .ensures)
+
+returns-7 : tie.Need-returns-7
+returns-7 c = rw (c .before .before .refusal7 .given .1) (c .carrying7 .ensures)
+
+returns-8 : tie.Need-returns-8
+returns-8 c = rw (c .before .enum-told .given .1) (c .carrying8 .ensures)
+
+returns-9 : tie.Need-returns-9
+returns-9 c = rw (c .before .refusal8 .given .1) (record { number = refl; first = refl; second = refl; third = refl })
+
+returns-10 : tie.Need-returns-10
+returns-10 c = rw (c .before .enum-told2 .given .1) (c .carrying9 .ensures)
+
+returns-11 : tie.Need-returns-11
+returns-11 c = rw (c .before .enum-told3 .given .1) (c .carrying10 .ensures)
+
+returns-12 : tie.Need-returns-12
+returns-12 c = rw (c .before .before .refusal9 .given .1) (c .carrying11 .ensures)
+
+returns-13 : tie.Need-returns-13
+returns-13 c = rw (c .before .before .refusal10 .given .1) (c .carrying12 .ensures)
+
+pub in-numbers-spec : {M : Type 1} → statement M
+in-numbers-spec =
+    tie.close
+    (tie.spec
+    enum-known-refusal
+    carrying-requires
+    enum-known-refusal-2
+    carrying-requires-2
+    enum-known-refusal-3
+    carrying-requires-3
+    enum-known-refusal-4
+    carrying-requires-4
+    enum-known-refusal-5
+    carrying-requires-5
+    enum-known-refusal-6
+    carrying-requires-6
+    enum-known-refusal-7
+    carrying-requires-7
+    enum-told
+    carrying-requires-8
+    enum-known-refusal-8
+    cast-t15
+    cast-t16
+    enum-told-2
+    carrying-requires-9
+    enum-told-3
+    carrying-requires-10
+    enum-known-refusal-9
+    carrying-requires-11
+    enum-known-refusal-10
+    cast-carrying
+    carrying-requires-12
+    returns
+    returns-2
+    returns-3
+    returns-4
+    returns-5
+    returns-6
+    returns-7
+    returns-8
+    returns-9
+    returns-10
+    returns-11
+    returns-12
+    returns-13)
