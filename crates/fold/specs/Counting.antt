@@ -8,7 +8,6 @@ use native.Mathlib.Nat.{le-of-suc-le-suc, eq-or-lt-of-le}
 use native.Mathlib.Decide.{ℕ-discrete, decLe}
 use native.Mathlib.Omega.{arith}
 use lib.Dec.{T}
-use Rattle.fold.specs.Test.{is-true, is-false}
 use Rattle.fold.specs.Fold.{bit, sum, count, below-suc}
 
 -- ---- two numbers

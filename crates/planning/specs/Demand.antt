@@ -16,7 +16,7 @@ use lib.Dec.{T}
 use lib.ListN.{length, take, drop}
 use lib.Seq.{take-append-seam, drop-append-seam}
 use Rattle.fold.specs.Test.{is-true, both-of}
-use Rattle.model.specs.Model.{Yard, Outcome, outcome, boundInside, allowed, Best, NoRow, FirstOverbooked}
+use Rattle.model.specs.Model.{Yard, Outcome, outcome, boundInside, Best, NoRow, FirstOverbooked}
 use Rattle.model.specs.Rows.{allowed-is}
 use Rattle.model.specs.BestOf.{bestOf, is-best, is-none}
 use Rattle.model.specs.Overbooked.{Interval, firstOverbooked, SaysFirst, first-says}

@@ -10,7 +10,7 @@ use native.Mathlib.Omega.{arith}
 use lib.Dec.{T}
 use lib.ListN.{length, getD, take, drop, take-append-drop}
 use lib.Seq.{length-take-le}
-use Rattle.model.specs.Model.{Yard, Outcome, outcome, boundInside, allowed}
+use Rattle.model.specs.Model.{Yard, Outcome, outcome, boundInside}
 use Rattle.model.specs.BestOf.{bestOf, best-is, none-is}
 use Rattle.model.specs.Overbooked.{Interval, firstOverbooked}
 use Rattle.day.specs.Answer.{Answer, gives, refuses}

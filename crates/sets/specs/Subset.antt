@@ -3,15 +3,15 @@
 -- Assumes nothing.
 use mathlib.Core.Path.{_≡_, sym, ap, _∙_, subst}
 use mathlib.Core.Logic.{⊎-elim}
-use mathlib.Core.Bool.{Bool, true, false, _&&_}
-use Prim.Native.Nat.{ℕ, zero, suc, _+_, _-_, _*_, _/_, _%_, _^_, _≤_, _<_, min}
+use mathlib.Core.Bool.{Bool, _&&_}
+use Prim.Native.Nat.{ℕ, _+_, _-_, _/_, _%_, _≤_, _<_}
 use native.Mathlib.Omega.{arith}
 use native.Mathlib.Nat.{eq-zero-or-pos}
 use lib.Dec.{T, eqb}
 use lib.Arith.{bin-ind}
 use lib.Count.{ones, ones-step, ones-le}
 use lib.Bits.{bitAnd, bitOr, bitXor, and-step, or-step, or-comm, and-zero-l, and-zero-r, and-le-l, and-le-r, and-comm, and-self, or-disjoint, xor-add-and}
-use Rattle.fold.specs.Test.{is-true, same-test, both, both-of}
+use Rattle.fold.specs.Test.{same-test, both, both-of}
 use Rattle.fold.specs.Counting.{le-or-lt}
 use Rattle.sets.specs.Mask.{mask, mask-and, mask-ext}
 

@@ -1,6 +1,6 @@
 -- What the revisits of a set cost: the sets with train k highest come from those below, and a bound. With the loop that fills the table.
 -- Assumes nothing.
-use mathlib.Core.Path.{_≡_, refl, sym, ap, _∙_}
+use mathlib.Core.Path.{_≡_, sym, ap, _∙_}
 use mathlib.Core.List.{List}
 use Prim.Native.Nat.{ℕ, _+_, _*_, _^_, _≤_, _<_}
 use native.Mathlib.Nat.{add-comm, one-mul, mul-zero, mul-one, mul-add, mul-le-mul}

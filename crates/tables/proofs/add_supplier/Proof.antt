@@ -1,6 +1,6 @@
 -- `tables::add_supplier` meets its contract. The loop's invariant: the sets without the train, and those passed with it.
 -- Assumes nothing.
-use Prim.Native.Nat.{_≤_, _+_, _-_}
+use Prim.Native.Nat.{_≤_, _-_}
 use mathlib.Core.Path.{ap}
 use borrow.Author.Needs.{needs}
 use native.Mathlib.Omega.{arith}

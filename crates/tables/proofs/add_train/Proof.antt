@@ -1,7 +1,7 @@
 -- `tables::add_train` meets its contract. The loop's invariant: the sets without train k, and those with it of the `below` sets of the
 -- trains passed.
 -- Assumes nothing.
-use Prim.Native.Nat.{ℕ, _≤_, _+_, _-_, _*_, _^_}
+use Prim.Native.Nat.{_≤_, _+_, _-_, _*_, _^_}
 use mathlib.Core.Path.{_≡_, refl, sym, ap, _∙_}
 use borrow.Author.Needs.{needs}
 use native.Mathlib.Omega.{arith}

@@ -1,6 +1,6 @@
 -- `tables::received_by` meets its contract. The loop's invariant: the sum of the boxes from the trains passed, at most 255 for each.
 -- Assumes nothing.
-use Prim.Native.Nat.{_≤_, _+_, _-_, _*_}
+use Prim.Native.Nat.{_≤_, _-_, _*_}
 use mathlib.Core.Path.{_≡_, sym, _∙_}
 use borrow.Author.Needs.{needs}
 use native.Mathlib.Omega.{arith}

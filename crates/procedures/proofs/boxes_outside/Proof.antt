@@ -1,0 +1,60 @@
+-- `procedures::boxes_outside` meets its contract. The loop's invariant: the sum of the boxes from the trains passed, at most 255 for each.
+-- Assumes nothing.
+use mathlib.Core.Path.{_≡_, sym, _∙_}
+use Prim.Native.Nat.{_≤_, _-_, _*_}
+use native.Mathlib.Omega.{arith}
+use Rattle.fold.specs.Fold.{sum, sum-none, sum-next, at-end}
+use Rattle.model.specs.Model.{cell}
+use Rattle.valuing.specs.Given.{given-pair}
+use Rattle.procedures.specs.Procedures.{outsideBoxes}
+use borrow.Author.Needs.{needs}
+use Rattle.procedures.proofs.boxes_outside.Statement.{statement}
+use Rattle.procedures.proofs.boxes_outside.Tie as tie
+
+abbrev Inv-loop : tie.InvT-loop
+Inv-loop boxes width row n t i total₀ j₀ total j = (j ≤ n) × (total ≡ sum j (outsideBoxes (cell width boxes) row t i)) × (total ≤ 255 * j)
+
+abbrev μ-loop : tie.MeasureT-loop
+μ-loop boxes width row n t i total₀ j₀ total j = n - j
+
+loop-holds : tie.Need-loop-holds Inv-loop μ-loop
+loop-holds c = (search needs, sym (sum-none _), search needs)
+
+outside-boxes-requires : tie.Need-outside-boxes-requires Inv-loop μ-loop
+outside-boxes-requires c κs = given-pair (c .before .before .before .before .pre .0) (search needs) (search needs)
+
+add-total : tie.Need-add-total Inv-loop μ-loop
+add-total c = omega arith
+
+add-j : tie.Need-add-j Inv-loop μ-loop
+add-j c = search needs
+
+loop-less : tie.Need-loop-less Inv-loop μ-loop
+loop-less c = search needs
+
+loop-again : tie.Need-loop-again Inv-loop μ-loop
+loop-again c =
+    let a = c .before .before .before .before .before .args in
+    let next = sum-next (c .before .before .loop .j) (outsideBoxes (cell (a .width) (a .boxes .now)) (a .row .now) (a .t) (a .i)) in
+    omega arith
+
+returns : tie.Need-returns Inv-loop μ-loop
+returns c =
+    let a = c .before .before .before .before .args in
+    let l = c .before .loop in
+    let end = at-end (λ k. sum k (outsideBoxes (cell (a .width) (a .boxes .now)) (a .row .now) (a .t) (a .i))) (l .j) (a .n) (l .inv .0) (c .loop-test .left) in
+    (l .inv .1 ∙ end, omega arith)
+
+pub boxes-outside-spec : {M : Type 1} → statement M
+boxes-outside-spec =
+    tie.close
+    (tie.spec
+    Inv-loop
+    μ-loop
+    loop-holds
+    outside-boxes-requires
+    add-total
+    add-j
+    loop-less
+    loop-again
+    returns)

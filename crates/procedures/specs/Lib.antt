@@ -1,0 +1,3 @@
+pub mod Procedures
+pub mod Underway
+pub mod Laws
