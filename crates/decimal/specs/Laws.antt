@@ -45,11 +45,6 @@ length-one v h = ap length (digits-one v h)
 pub length-more : (v : ℕ) → 10 ≤ v → length (digits v) ≡ length (digits (v / 10)) + 1
 length-more v h = ap length (digits-more v h) ∙ length-append (digits (v / 10)) ((48 + v % 10) ∷ [])
 
--- at most k + 1 digits where a tenth has at most k
-pub digits-le : (k m : ℕ) → ((u : ℕ) → u ≤ m → length (digits u) ≤ k) → 1 ≤ k → (v : ℕ) → v ≤ m * 10 + 9 → length (digits v) ≤ k + 1
-digits-le k m f g v h =
-    ⊎-elim (λ l. omega (arith, length-more v l, f (v / 10) (omega arith))) (λ l. omega (arith, length-one v l)) (le-or-lt 10 v)
-
 -- ---- tests of a byte and of a value
 
 digit-yes : (c : ℕ) → 48 ≤ c → c ≤ 57 → isDigit c ≡ true

@@ -10,7 +10,7 @@ use native.Mathlib.Omega.{arith}
 use lib.Dec.{eqb}
 use borrow.Author.Tests.{eq-eqb, ne-eqb}
 use Rattle.fold.specs.Counting.{le-or-lt}
-use Rattle.fold.specs.Fold.{bit, sum, count, some, each, lowest, below-suc}
+use Rattle.fold.specs.Fold.{bit, sum, some, each, lowest, below-suc}
 
 -- ---- terms that agree below the bound
 
@@ -18,10 +18,6 @@ pub sum-ext : (n : ℕ) (f g : ℕ → ℕ) → ((i : ℕ) → i < n → f i ≡
 unfolding sum
 sum-ext zero f g e = refl
 sum-ext (suc n) f g e = ap₂ (λ x y. x + y) (sum-ext n f g (λ i h. e i (omega arith))) (e n (omega arith))
-
-pub count-ext : (n : ℕ) (p q : ℕ → Bool) → ((i : ℕ) → i < n → p i ≡ q i) → count n p ≡ count n q
-unfolding count
-count-ext n p q e = sum-ext n (λ i. bit (p i)) (λ i. bit (q i)) (λ i h. ap bit (e i h))
 
 pub some-ext : (n : ℕ) (p q : ℕ → Bool) → ((i : ℕ) → i < n → p i ≡ q i) → some n p ≡ some n q
 unfolding some

@@ -142,12 +142,6 @@ module _ (ok : Test) (w : Contribution) (inf : ℕ) where
       let b : tab (suc k) t r ≤ candidate (tab k (suc t)) t r s = tab-least k t r .least s (h .0) (omega arith) in
       (omega arith, v, omega arith)
 
-  pub cheapest-join : (k t r s : ℕ) (q : List ℕ) → tab (suc k) t r < inf → Sub s r → candidate (tab k (suc t)) t r s ≡ tab (suc k) t r
-      → Schedule ok (suc t) (r - s) q → value w (suc t) (r - s) q ≡ tab k (suc t) (r - s) → Schedule ok t r (s ∷ q) × (value w t r (s ∷ q) ≡ tab (suc k) t r)
-  cheapest-join k t r s q l hs c h e =
-      let o = offer-lt inf (ok t r s) (tab k (suc t) (r - s)) (w t r s) (omega arith) in
-      ((hs, o .0, h), omega (arith, offer-yes inf (ok t r s) (tab k (suc t) (r - s)) (w t r s) (o .0) (o .1)))
-
   -- ---- the whole
 
   follow-first : (k t r : ℕ) → tab k t r < inf → (q : List ℕ) → length q ≡ k → Schedule ok t r q → value w t r q ≡ tab k t r

@@ -10,9 +10,8 @@ use native.Mathlib.Nat.{eq-zero-or-pos}
 use lib.Dec.{T, eqb}
 use lib.Arith.{bin-ind}
 use lib.Count.{ones, ones-step, ones-le}
-use lib.Bits.{bitAnd, bitOr, bitXor, and-step, or-step, or-comm, and-zero-l, and-zero-r, and-le-l, and-le-r, and-comm, and-self, or-disjoint, xor-add-and}
+use lib.Bits.{bitAnd, bitOr, and-step, or-step, or-comm, and-zero-l, and-le-l, and-le-r, and-self}
 use Rattle.fold.specs.Test.{same-test, both, both-of}
-use Rattle.fold.specs.Counting.{le-or-lt}
 use Rattle.sets.specs.Mask.{mask, mask-and, mask-ext}
 
 -- ---- definitions
@@ -107,18 +106,6 @@ sub-parts u =
     (omega (arith, sub-low n r h, sub-low n o k, sub-low (r - n) o m, sub-le (n / 2) (r / 2) (sub-half n r h))))
     u
 
-pub rest-apart : (u r : ℕ) → Sub u r → bitAnd (r - u) u ≡ 0
-rest-apart u =
-    bin-ind (λ (n : ℕ). (r : ℕ) → Sub n r → bitAnd (r - n) n ≡ 0)
-    (λ r h. and-zero-r (r - 0))
-    (λ n ih r h.
-    let rest : bitAnd ((r - n) / 2) (n / 2) ≡ 0 = subst (λ (x : ℕ). bitAnd x (n / 2) ≡ 0) (sym (half-rest n r h)) (ih (r / 2) (sub-half n r h)) in
-    omega (arith, and-step (r - n) n, sub-low n r h, sub-le (n / 2) (r / 2) (sub-half n r h)))
-    u
-
-pub rest-or : (u r : ℕ) → Sub u r → bitOr (r - u) u ≡ r
-rest-or u r h = omega (arith, or-disjoint (r - u) u (rest-apart u r h), sub-le u r h)
-
 -- each position of r is in u or in what u leaves
 pub ones-rest : (u r : ℕ) → Sub u r → ones (r - u) + ones u ≡ ones r
 ones-rest u =
@@ -130,10 +117,6 @@ ones-rest u =
     let rest : ones ((r - n) / 2) ≡ ones (r / 2 - n / 2) = ap ones (half-rest n r h) in
     omega (arith, rest, ih (r / 2) (sub-half n r h), ones-step (r - n), ones-step n, ones-step r, sub-low n r h, sub-le (n / 2) (r / 2) (sub-half n r h)))
     u
-
--- the code's `r ^ u`
-pub rest-xor : (u r : ℕ) → Sub u r → bitXor r u ≡ r - u
-rest-xor u r h = omega (arith, xor-add-and r u, and-comm r u)
 
 -- ---- the walk
 
@@ -164,12 +147,3 @@ walk-next s =
         let rest : bitAnd ((n - 1) / 2) (r / 2) ≡ n / 2 = ap (λ (x : ℕ). bitAnd x (r / 2)) half ∙ sub-half n r hs in
         omega (arith, and-step (n - 1) r))
         (eq-zero-or-pos (n % 2))
-
--- what holds of the subsets from s up, and of the next one down, holds of the subsets from the next one up
-pub walk-on : (P : ℕ → Type 0) (s r : ℕ) → Sub s r → ((q : ℕ) → Sub q r → s ≤ q → P q) → P (walk s r) → (q : ℕ) → Sub q r → walk s r ≤ q → P q
-walk-on P s r hs all here q hq l =
-    ⊎-elim (λ (m : s ≤ q). all q hq m)
-    (λ (m : q < s).
-    let e : walk s r ≡ q = omega (arith, walk-next s r q hs hq m) in
-    subst P e here)
-    (le-or-lt s q)

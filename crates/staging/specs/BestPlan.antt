@@ -5,7 +5,7 @@ use mathlib.Core.List.{List}
 use Prim.Native.Nat.{ℕ, suc}
 use native.Mathlib.Omega.{arith}
 use lib.Dec.{T}
-use Rattle.model.specs.Model.{Yard, slotMask, cost, allowed, lower, precedes, Best, NoRow}
+use Rattle.model.specs.Model.{Yard, slotMask, cost, allowed, lower, precedes, Best}
 use Rattle.optimum.specs.Schedules.{Ahead, ahead-not-lower}
 use Rattle.optimum.specs.Rows.{stageSet, worth, BestRow}
 use Rattle.staging.specs.Tables.{servable, slotCost}
@@ -33,9 +33,3 @@ module _ (y : Yard) where
             let o = allowed-row y other h in
             ahead-precedes row other (b .first other o (row-cost o ∙ e ∙ sym (row-cost (b .allowed))));
       }
-
-  pub no-plan : ((row : List ℕ) → DayRow y row → ⊥) → NoRow y
-  no-plan none row h = none row (allowed-row y row h)
-
-  pub no-day-row : NoRow y → (row : List ℕ) → DayRow y row → ⊥
-  no-day-row none row h = none row (row-allowed y row h)

@@ -1,12 +1,12 @@
 -- What a slot costs at most, where no weight is above W, there are at most N trains, and no train receives more than B boxes from another.
--- With document 01's limits a set's split moves cost less than the barred word, and all slots together less than 2 ^ 64 - 1.
+-- With document 01's limits all slots together cost less than 2 ^ 64 - 1.
 -- Assumes nothing.
 use mathlib.Core.Bool.{Bool, true, false, cond}
 use Prim.Native.Nat.{ℕ, _+_, _-_, _*_, _^_, _≤_, _<_, zero-le}
 use native.Mathlib.Nat.{le-trans, le-refl, add-le-add, mul-assoc, mul-le-mul}
 use native.Mathlib.Omega.{arith}
 use lib.Bits.{bitAnd, and-le-l}
-use lib.Count.{ones, ones-le}
+use lib.Count.{ones-le}
 use lib.Dec.{T}
 use lib.Pow.{pow-pos}
 use Rattle.fold.specs.Fold.{sum}
@@ -15,7 +15,7 @@ use Rattle.sets.specs.Mask.{has}
 use Rattle.sets.specs.Subset.{Sub, sub-le}
 use Rattle.model.specs.Model.{Yard, received}
 use Rattle.sets.specs.Rest.{full}
-use Rattle.staging.specs.Tables.{needing, fromOutside, lateTrains, servable, slotCost, barred, noCost}
+use Rattle.staging.specs.Tables.{needing, fromOutside, lateTrains, servable, slotCost, noCost}
 
 -- a day within limits: weights up to W, up to N trains, up to B boxes from one train to another
 pub record Limited (y : Yard) (W N B : ℕ) : Type 0 where
@@ -60,10 +60,6 @@ late-le y r s l =
 -- ---- what they cost
 
 module _ {y : Yard} {W N B : ℕ} (h : Limited y W N B) where
-  -- what any set of trains costs, were all of it late
-  pub late-cost-le : (m : ℕ) → m < 2 ^ y .trains → y .revisit * ones m ≤ lateBound W N
-  late-cost-le m l = mul-le-mul (h .revisit) (le-trans (ones-le (y .trains) m l) (h .trains))
-
   pub split-cost-le : (s : ℕ) → y .split * fromOutside (y .trains) (received y) s ≤ splitBound W N B
   split-cost-le s =
       let n = y .trains in
@@ -79,11 +75,5 @@ module _ {y : Yard} {W N B : ℕ} (h : Limited y W N B) where
 
 -- ---- document 01's limits: weights up to 65535, 12 trains, 255 boxes; and any number of slots that a byte holds
 
-pub split-fits : splitBound 65535 12 255 < barred
-split-fits = omega arith
-
 pub slots-fit : (m : ℕ) → m ≤ 255 → m * slotBound 65535 12 255 < noCost
 slots-fit m l = omega arith
-
-pub split-under : {y : Yard} → Limited y 65535 12 255 → (s : ℕ) → y .split * fromOutside (y .trains) (received y) s < barred
-split-under h s = omega (arith, split-cost-le h s, split-fits)
