@@ -1,3 +1,5 @@
 pub mod Procedures
 pub mod Underway
+pub mod Complete
+pub mod Known
 pub mod Laws
