@@ -50,7 +50,7 @@ loop-again c =
     let l = e .before .before .before in
     let inv = l .loop .inv in
     ⊎-elim
-    (λ w. (search needs, rw (w .1) (length-set (l .loop .row) (l .loop .i) _ ∙ inv .1), w .1 ∙ come-take _ _ _ _ _ (l .loop .i) (inv .2) (e .earliest-slot .ensures) (w .0 .taken)))
+    (λ w. (search needs, rw (w .1) (length-set (l .loop .row) _ _ ∙ inv .1), w .1 ∙ come-take _ _ _ _ _ (l .loop .i) (inv .2) (e .earliest-slot .ensures) (w .0 .taken)))
     (λ w. (search needs, rw (w .1) (inv .1), w .1 ∙ come-pass _ _ _ _ _ (l .loop .i) (inv .2) (e .earliest-slot .ensures) (w .0 .left)))
     (c .if1 .came)
 
