@@ -26,6 +26,18 @@ fn carrying(number: u64, value: usize) -> Numbered
     }
 }
 
+// Refusal 9, which carries an interval and the trains bound inside.
+fn interval(first: u8, last: u8, trains: usize) -> Numbered
+    ensures { λ r. ⌜ Tells 9 (first ∷ last ∷ trains ∷ []) r ⌝ }
+{
+    Numbered {
+        number: 9,
+        first: first as u64,
+        second: last as u64,
+        third: trains as u64,
+    }
+}
+
 // A refusal's number and the values that it carries.
 pub fn in_numbers(refusal: Refusal) -> Numbered
     ensures { λ r. ⌜ Tells (number refusal) (carried refusal) r ⌝ }
@@ -43,12 +55,7 @@ pub fn in_numbers(refusal: Refusal) -> Numbered
             first,
             last,
             trains,
-        } => Numbered {
-            number: 9,
-            first: first as u64,
-            second: last as u64,
-            third: trains as u64,
-        },
+        } => interval(first, last, trains),
         Refusal::TooShort => carrying(10, 0),
         Refusal::RowLength => carrying(11, 0),
         Refusal::OutsideWindow(position) => carrying(12, position),

@@ -1,6 +1,5 @@
 -- `refusals::in_numbers` meets its contract. Case by case.
 -- Assumes nothing.
-use mathlib.Core.Path.{refl}
 use borrow.Author.Needs.{needs}
 use Rattle.refusals.proofs.in_numbers.Statement.{statement}
 use Rattle.refusals.proofs.in_numbers.Tie as tie
@@ -56,11 +55,8 @@ carrying-requires-8 c κs = search needs
 enum-known-refusal-8 : tie.Need-enum-known-refusal-8
 enum-known-refusal-8 c = search needs
 
-cast-t15 : tie.Need-cast-t15
-cast-t15 c = search needs
-
-cast-t16 : tie.Need-cast-t16
-cast-t16 c = search needs
+interval-requires : tie.Need-interval-requires
+interval-requires c κs = search needs
 
 enum-told-2 : tie.Need-enum-told-2
 enum-told-2 c = search needs
@@ -114,7 +110,7 @@ returns-8 : tie.Need-returns-8
 returns-8 c = rw (c .before .enum-told .given .1) (c .carrying8 .ensures)
 
 returns-9 : tie.Need-returns-9
-returns-9 c = rw (c .before .refusal8 .given .1) (record { number = refl; first = refl; second = refl; third = refl })
+returns-9 c = rw (c .before .before .refusal8 .given .1) (c .interval .ensures)
 
 returns-10 : tie.Need-returns-10
 returns-10 c = rw (c .before .enum-told2 .given .1) (c .carrying9 .ensures)
@@ -149,8 +145,7 @@ in-numbers-spec =
     enum-told
     carrying-requires-8
     enum-known-refusal-8
-    cast-t15
-    cast-t16
+    interval-requires
     enum-told-2
     carrying-requires-9
     enum-told-3
