@@ -1,6 +1,6 @@
 -- The published model (source 000, section 3.1 and equation (12), as document 01 reads them): what a row of slots costs, which rows
 -- are allowed, which of two rows of equal cost comes first, and what the best plan is. This file is what a reader must believe.
--- It speaks of plain data, numbers and lists, so that records of any size have one model. Paper.antt joins it to the equations.
+-- It speaks of plain data, numbers and lists, so that records of any size have one model. Bridge.antt joins it to the equations.
 -- Position k of the papers is the index k - 1 here; slots count from 1. A row is the list of the positions' slots.
 -- Assumes nothing.
 use mathlib.Core.Path.{_≡_}
