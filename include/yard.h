@@ -1,8 +1,8 @@
-/* The yard slot planner for programs in C: plan a day, check a day file, value a row of slots.
+/* The yard slot planner for programs in C: plan a day, check a day file, value a row of slots, see what planning saves.
  *
  * The functions are proved (crates/yard): for every text, every row and all lent memory they return and leave exactly what stands here.
- * They keep no state, allocate nothing, and may be called from several threads at once. yard_answer needs up to 160 KB of stack (the
- * example of embedding/ runs in 160 KB and not in 150).
+ * They keep no state, allocate nothing, and may be called from several threads at once. Those that plan (yard_answer,
+ * yard_first_come_first_served, yard_myopic) need up to 160 KB of stack: the examples of embedding/ run in 160 KB and not in 140.
  *
  * Build the library with the Rattle kit and link it:
  *     rt staticlib yard                                   (writes target/staticlib/libyard.a)
@@ -15,9 +15,10 @@
  *      1  a names line is absent or differs          2  a row is absent or has another form
  *      3  a value is outside its limits              4  a train number isn't above the one before
  *      5  first is above last                        6  a move names an unlisted train, or to equals from
- *      7  a move's pair isn't after the pair before  9  no row is allowed (printed by yard_answer, never returned)
+ *      7  a move's pair isn't after the pair before  9  no row is allowed (printed by yard_answer, never returned by it)
  *     10  lent memory is shorter than needed        11  the row's length isn't the number of trains
  *     12  a slot lies outside its train's window    13  a slot holds more trains than there are tracks
+ *     14  first come or the myopic procedure leaves a train without a slot
  */
 #ifndef YARD_H
 #define YARD_H
@@ -60,6 +61,26 @@ uint64_t yard_check(const uint8_t *text, size_t text_length, uint64_t *line);
  *
  * Returns 0, or the refusal: 10 where numbers_length is below 3 (then no number has changed), else 1 to 7, 11, 12 or 13. */
 uint64_t yard_value(const uint8_t *text, size_t text_length, const uint8_t *row, size_t row_length, uint64_t *numbers, size_t numbers_length);
+
+/* What planning saves on the day of a text, against one of two simple procedures: the three numbers of the procedure's row of slots, and
+ * its cost less the planned cost. No saving is below zero.
+ *
+ * First come, first served: the trains in the order of the day file each take the earliest slot in their window with a track free.
+ * Myopic: slot after slot and track after track, of the trains whose window holds the slot that one which adds least to the cost, of
+ * equal ones the first in the day file; where there is none the next slot begins. It adds the revisit weight where one of its suppliers
+ * has no slot yet, and the split weight for each box from a supplier that is not in this slot.
+ *
+ * text, text_length        the day file. No byte of it changes.
+ * numbers, numbers_length  room for at least three numbers. Afterwards the first three hold revisits, split moves and cost of the
+ *                          procedure's row; after a refusal what it carries, then zeros: 1 to 7 the line; 9 the first and last slot of
+ *                          the overbooked stretch and the number of trains bound inside; 14 the lowest position that is left without a
+ *                          slot, counted from 1. Numbers beyond stay as they were.
+ * saving                   holds the saving afterwards, 0 after a refusal.
+ *
+ * Each returns 0, or the refusal: 10 where numbers_length is below 3 (then no number has changed), else 1 to 7, 9 or 14. A day with 14
+ * has a plan. */
+uint64_t yard_first_come_first_served(const uint8_t *text, size_t text_length, uint64_t *numbers, size_t numbers_length, int64_t *saving);
+uint64_t yard_myopic(const uint8_t *text, size_t text_length, uint64_t *numbers, size_t numbers_length, int64_t *saving);
 
 #ifdef __cplusplus
 }

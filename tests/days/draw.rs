@@ -191,6 +191,18 @@ fn inner_overbooked_yard(random: &mut Random) -> Yard {
     Yard { tracks, slots, windows }
 }
 
+/// Feasible by a hidden assignment that leaves one place free at most, so that
+/// whoever takes the trains one by one often leaves a train over.
+fn crowded_yard(random: &mut Random) -> Yard {
+    let tracks = random.between(1, 3);
+    let slots = random.between(2, MOST_SLOTS.min(MOST_TRAINS / tracks));
+    let mut homes = places(random, 1..=slots, tracks);
+    homes.truncate(homes.len() - random.below(2));
+    let reach = random.between(1, 3);
+    let window = |&home: &usize| Window::around(random, home, (1, slots), reach);
+    Yard { tracks, slots, windows: homes.iter().map(window).collect() }
+}
+
 /// Narrows windows until at most `most` assignments lie within them.
 fn narrow_yard(random: &mut Random, yard: &mut Yard, most: usize) {
     while yard.windows.iter().map(Window::width).product::<usize>() > most {
@@ -242,15 +254,8 @@ fn draw_weight(random: &mut Random) -> usize {
     random.pick(&[0, 0, 1, 1, MOST_WEIGHT, small, small, any])
 }
 
-/// A sound day with at most `most` assignments within its windows.
-pub fn draw_day(random: &mut Random, most: usize) -> Day {
-    let mut yard = match random.below(6) {
-        0 => open_yard(random, most),
-        1 => scattered_yard(random),
-        2 => full_yard(random),
-        3 => inner_overbooked_yard(random),
-        _ => planted_yard(random),
-    };
+/// A sound day in the yard, with at most `most` assignments within its windows.
+fn day_in(random: &mut Random, mut yard: Yard, most: usize) -> Day {
     narrow_yard(random, &mut yard, most);
     random.shuffle(&mut yard.windows);
     let numbers = draw_numbers(random, yard.windows.len());
@@ -267,6 +272,24 @@ pub fn draw_day(random: &mut Random, most: usize) -> Day {
         boxes: draw_boxes(random, yard.windows.len()),
         trains: numbers.iter().zip(&yard.windows).map(train).collect(),
     }
+}
+
+/// A sound day of any kind.
+pub fn draw_day(random: &mut Random, most: usize) -> Day {
+    let yard = match random.below(6) {
+        0 => open_yard(random, most),
+        1 => scattered_yard(random),
+        2 => full_yard(random),
+        3 => inner_overbooked_yard(random),
+        _ => planted_yard(random),
+    };
+    day_in(random, yard, most)
+}
+
+/// A sound day that has a plan and hardly a place to spare.
+pub fn draw_crowded(random: &mut Random, most: usize) -> Day {
+    let yard = crowded_yard(random);
+    day_in(random, yard, most)
 }
 
 /// A sound day; one in `LARGE_ONE_IN` has more assignments than usual to try.

@@ -1,4 +1,5 @@
-//! What 01 says: its days with known outcome and its examples of refusals.
+//! What 01 says: its days with known outcome and its examples of refusals; and
+//! days made by hand for the baselines of order 1.
 
 use crate::day_file::{HEAD_NAMES, MOVE_NAMES, TRAIN_NAMES};
 
@@ -124,4 +125,58 @@ pub const TEXTS: [(&str, &str, Known); 8] = [
     ("absent names", "trains tracks slots revisit split\n1 1 1 1 1\n", Known::Refused(1, 3)),
     ("a second row", "trains tracks slots revisit split\n1 1 1 1 1\n1 1 1 1 1\n", Known::Refused(1, 3)),
     ("byte 13", "trains tracks slots revisit split\r\n", Known::Refused(1, 1)),
+];
+
+/// A day with what first come and the myopic procedure make of it.
+pub struct BaselineDay {
+    pub name: &'static str,
+    head: &'static str,
+    trains: &'static [&'static str],
+    moves: &'static [&'static str],
+    pub outcomes: [BaselineOutcome; 2],
+}
+
+/// The slots by position, 0 where a train is left without one; 0 or the number
+/// of the refusal; the three numbers; the saving.
+pub type BaselineOutcome = (&'static [usize], usize, [usize; 3], i64);
+
+impl BaselineDay {
+    pub fn text(&self) -> Vec<u8> {
+        day_text(self.head, self.trains, self.moves)
+    }
+}
+
+const fn made(
+    name: &'static str,
+    head: &'static str,
+    trains: &'static [&'static str],
+    moves: &'static [&'static str],
+    outcomes: [BaselineOutcome; 2],
+) -> BaselineDay {
+    BaselineDay { name, head, trains, moves, outcomes }
+}
+
+/// Worked out by hand from order 1 and section 4.2 of source 000.
+#[rustfmt::skip]
+pub const BASELINE_DAYS: [BaselineDay; 10] = [
+    made("P1", P1_HEAD, P1_TRAINS, P1_MOVES,
+        [(&[1, 1, 2, 2], 0, [1, 10, 11], 3), (&[1, 1, 2, 2], 0, [1, 10, 11], 3)]),
+    made("boxes from earlier slots count", "3 1 3 1 1", &["1 1 3", "2 1 3", "3 1 3"], &["2 1 5", "3 2 2"],
+        [(&[1, 2, 3], 0, [0, 7, 7], 0), (&[1, 3, 2], 0, [1, 7, 8], 1)]),
+    made("boxes from the current slot don't", "3 2 2 1 1", &["1 1 2", "2 1 2", "3 1 2"], &["2 3 1", "3 1 9"],
+        [(&[1, 1, 2], 0, [1, 10, 11], 10), (&[1, 2, 1], 0, [0, 1, 1], 0)]),
+    made("a tie", "3 1 3 1 1", &["1 1 2", "2 1 2", "3 3 3"], &["1 2 1", "2 3 1"],
+        [(&[1, 2, 3], 0, [2, 2, 4], 1), (&[1, 2, 3], 0, [2, 2, 4], 1)]),
+    made("tracks stay free", "2 2 3 1 1", &["1 3 3", "2 1 1"], &["1 2 1"],
+        [(&[3, 1], 0, [0, 1, 1], 0), (&[3, 1], 0, [0, 1, 1], 0)]),
+    made("first come leaves one over", "2 1 2 1 1", &["1 1 2", "2 1 1"], &["1 2 1"],
+        [(&[1, 0], 14, [2, 0, 0], 0), (&[2, 1], 0, [0, 1, 1], 0)]),
+    made("myopic leaves one over", "2 1 2 1 1", &["1 1 1", "2 1 2"], &["1 2 1"],
+        [(&[1, 2], 0, [1, 1, 2], 0), (&[0, 1], 14, [1, 0, 0], 0)]),
+    made("the lowest of two left over", "4 2 2 1 1", &["1 1 2", "2 1 2", "3 1 1", "4 1 1"], &[],
+        [(&[1, 1, 0, 0], 14, [3, 0, 0], 0), (&[1, 1, 0, 0], 14, [3, 0, 0], 0)]),
+    made("window passed, still waiting", "4 1 4 2 1", &["1 2 2", "2 2 3", "3 1 4", "4 1 1"], &["1 4 1", "2 3 2"],
+        [(&[2, 3, 1, 0], 14, [4, 0, 0], 0), (&[0, 2, 1, 0], 14, [1, 0, 0], 0)]),
+    made("9 before 14", "3 2 2 1 1", &["1 1 1", "2 1 1", "3 1 1"], &[],
+        [(&[1, 1, 0], 9, [1, 1, 3], 0), (&[1, 1, 0], 9, [1, 1, 3], 0)]),
 ];

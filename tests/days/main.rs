@@ -1,20 +1,25 @@
-//! The independent test program of yard-plan.
+//! The independent test program of yard-plan and of the library's baselines.
 //!
-//! It is a second opinion, written from document 01 alone: its own reader of
+//! It is a second opinion, written from the papers alone: its own reader of
 //! day files, its own planner that tries every assignment of slots within the
-//! windows, and its own printer. The program under test is run as a process
-//! and its output compared byte for byte with what 01 says.
+//! windows, its own printer, and its own two baselines. The program under test
+//! is run as a process and its output compared byte for byte with what 01
+//! says; the baselines are called in the static library.
 //!
 //!     days expect < day.txt        prints what yard-plan has to print
 //!     days examples PROGRAM DIR    runs the stored days of DIR
 //!     days generated PROGRAM       runs drawn days and damaged texts
-//!     days self                    checks this program on 01's known days
+//!     days baselines               calls the library's two baselines on days
+//!     days self                    checks this program on known days
 //!
 //! Words: an assignment is 01's row of slots, an interval its stretch, a mask
-//! its set number. A row is here always a row of values in a file.
+//! its set number, a baseline a yardstick of order 1 in 02. A row is here
+//! always a row of values in a file.
 //!
-//! Build: rustc -O --edition 2021 -o target/tests/days tests/days/main.rs
+//! Build: rt staticlib yard
+//!        rustc -O --edition 2021 -L target/staticlib -o target/tests/days tests/days/main.rs
 
+mod baselines;
 mod damage;
 mod day_file;
 mod draft;
@@ -22,12 +27,18 @@ mod draw;
 mod generated;
 mod groups;
 mod known;
+mod library;
+mod misreadings;
 mod model;
 mod plan;
+mod procedures;
 mod process;
+mod reports;
+mod self_baselines;
 mod self_check;
 mod special;
 
+use crate::baselines::baselines;
 use crate::generated::generated;
 use crate::groups::Tests;
 use crate::model::MOST_BYTES_READ;
@@ -112,9 +123,11 @@ fn main() -> ExitCode {
         ["expect"] => expect().is_ok(),
         ["examples", program, directory] => examples(program, Path::new(directory)),
         ["generated", program] => generated(program),
+        ["baselines"] => baselines(),
         ["self"] => check_self(),
         _ => {
-            eprintln!("usage: days expect | examples PROGRAM DIR | generated PROGRAM | self");
+            let modes = "expect | examples PROGRAM DIR | generated PROGRAM | baselines | self";
+            eprintln!("usage: days {modes}");
             return ExitCode::from(2);
         }
     };

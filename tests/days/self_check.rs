@@ -1,4 +1,4 @@
-//! Mode self: this program checked on what 01 says.
+//! Mode self: this program checked on what 01 says, and on days made by hand.
 
 use crate::day_file::{read_day, write_day, Refusal};
 use crate::groups::Tests;
@@ -9,6 +9,7 @@ use crate::model::{
     precedes, value, within_tracks, within_windows, Value, MOST_BYTES_ACCEPTED, MOST_BYTES_READ,
 };
 use crate::plan::{answer, expected, Answer};
+use crate::self_baselines::check_baselines;
 use crate::special::{greatest_day, padded};
 
 /// 01's two files of case P1, as it prints them.
@@ -45,7 +46,7 @@ fn agrees(answer: &Answer, known: &Known) -> bool {
 }
 
 impl Tests<'_> {
-    fn check(&mut self, holds: bool, what: &str) {
+    pub fn check(&mut self, holds: bool, what: &str) {
         match holds {
             true => self.passed += 1,
             false => self.fail(what),
@@ -111,5 +112,6 @@ pub fn check_self() -> bool {
     check_values(&mut tests);
     check_printing(&mut tests);
     check_sizes(&mut tests);
+    check_baselines(&mut tests);
     tests.finish()
 }

@@ -1,17 +1,17 @@
--- What a call answers, in the numbers of document 01: what it gives, or the number of a refusal with the values that it carries.
+-- What a call answers, in the numbers of documents 01 and 02: what it gives, or the number of a refusal with the values that it carries.
 -- Every enum of an answer is mapped to this, and the promises speak of it.
 -- Assumes nothing.
 use mathlib.Core.Bool.{Bool, cond}
 use mathlib.Core.List.{List, [], _∷_}
 use Prim.Native.Nat.{ℕ}
 use Rattle.day.specs.declared.Refusal.{Refusal}
-use Rattle.day.specs.declared.Refusal.the-variants.{NamesLine, RowForm, OutOfLimits, NumberOrder, WindowOrder, UnknownTrain, PairOrder, Unsound, NoAllowedRow, TooShort, RowLength, OutsideWindow, SlotOverfull}
+use Rattle.day.specs.declared.Refusal.the-variants.{NamesLine, RowForm, OutOfLimits, NumberOrder, WindowOrder, UnknownTrain, PairOrder, Unsound, NoAllowedRow, TooShort, RowLength, OutsideWindow, SlotOverfull, WithoutSlot}
 
 pub data Answer (X : Type 0) : Type 0 where
   gives : X → Answer X
   refuses : ℕ → List ℕ → Answer X
 
--- the number of a refusal in 01's table
+-- the number of a refusal: 1 to 13 in 01's table, 14 in document 02
 abbrev pub number : Refusal → ℕ
 number (NamesLine line) = 1
 number (RowForm line) = 2
@@ -26,6 +26,7 @@ number TooShort = 10
 number RowLength = 11
 number (OutsideWindow position) = 12
 number (SlotOverfull slot) = 13
+number (WithoutSlot position) = 14
 
 -- what it carries
 abbrev pub carried : Refusal → List ℕ
@@ -42,9 +43,15 @@ carried TooShort = 0 ∷ []
 carried RowLength = 0 ∷ []
 carried (OutsideWindow position) = position ∷ []
 carried (SlotOverfull slot) = slot ∷ []
+carried (WithoutSlot position) = position ∷ []
 
 abbrev pub refusal : {X : Type 0} → Refusal → Answer X
 refusal r = refuses (number r) (carried r)
+
+-- the answer that follows from what is given; a refusal is handed on
+abbrev pub onGiven : {X Y : Type 0} → Answer X → (X → Answer Y) → Answer Y
+onGiven (gives x) f = f x
+onGiven (refuses k carries) f = refuses k carries
 
 -- ---- checks, in the order in which a call makes them
 

@@ -1,5 +1,5 @@
 -- A call's checks taken together: where all hold the answer is given, and where something is given all hold; a check that fails gives
--- the same refusal whatever would be answered.
+-- the same refusal whatever would be answered. What follows from an answer is given only where that one is.
 -- Assumes nothing.
 use mathlib.Core.Path.{_≡_, refl, ap, _∙_}
 use mathlib.Core.Bool.{Bool, true, false, cond}
@@ -8,7 +8,7 @@ use Prim.Native.Nat.{ℕ}
 use native.Mathlib.Omega.{arith}
 use lib.Dec.{T}
 use Rattle.fold.specs.Test.{is-true}
-use Rattle.day.specs.Answer.{Answer, gives, refuses, Check, must, checked}
+use Rattle.day.specs.Answer.{Answer, gives, refuses, onGiven, Check, must, checked}
 
 abbrev pub AllHold : List Check → Type 0
 AllHold [] = Unit
@@ -34,3 +34,8 @@ pub checked-refuses : {X Y : Type 0} (checks : List Check) (x : X) (b : Answer Y
 checked-refuses [] x b {k} {carries} e = absurd (let z : _≡_ {A = ℕ} 0 1 = cc in omega arith)
 checked-refuses (must true m c ∷ checks) x b e = checked-refuses checks x b e
 checked-refuses (must false m c ∷ checks) x b e = cc
+
+-- where something follows from an answer, something was given before
+pub given-before : {X Y : Type 0} (a : Answer X) (f : X → Answer Y) (y : Y) → onGiven a f ≡ gives y → (x : X) × (a ≡ gives x) × (f x ≡ gives y)
+given-before (gives x) f y e = (x, refl, e)
+given-before (refuses k carries) f y e = absurd (let z : _≡_ {A = ℕ} 0 1 = cc in omega arith)

@@ -35,8 +35,8 @@ pub struct Limits {
     pub boxes: u8,
 }
 
-// The refusals 1 to 13 of document 01, in its order, with what each carries: a line of the text, counted from 1; the first and the
-// last slot of an interval and the trains bound inside; a position or a slot, counted from 1.
+// The refusals 1 to 13 of document 01 and 14 of document 02, in their order, with what each carries: a line of the text, counted from 1;
+// the first and the last slot of an interval and the trains bound inside; a position or a slot, counted from 1.
 pub enum Refusal {
     NamesLine(usize),
     RowForm(usize),
@@ -51,6 +51,7 @@ pub enum Refusal {
     RowLength,
     OutsideWindow(usize),
     SlotOverfull(u8),
+    WithoutSlot(usize),
 }
 
 // The limits of document 01.

@@ -1,5 +1,4 @@
 pub mod Procedures
 pub mod Underway
 pub mod Complete
-pub mod Known
 pub mod Laws

@@ -9,7 +9,7 @@ use lib.ListN.{getD}
 use Rattle.day.specs.Answer.{number, carried}
 use Rattle.refusals.specs.declared.Numbered.{Numbered}
 use Rattle.day.specs.declared.Refusal.{Refusal}
-use Rattle.day.specs.declared.Refusal.the-variants.{NamesLine, RowForm, OutOfLimits, NumberOrder, WindowOrder, UnknownTrain, PairOrder, Unsound, NoAllowedRow, TooShort, RowLength, OutsideWindow, SlotOverfull}
+use Rattle.day.specs.declared.Refusal.the-variants.{NamesLine, RowForm, OutOfLimits, NumberOrder, WindowOrder, UnknownTrain, PairOrder, Unsound, NoAllowedRow, TooShort, RowLength, OutsideWindow, SlotOverfull, WithoutSlot}
 
 pub record Tells (k : ℕ) (carries : List ℕ) (r : Numbered) : Type 0 where
   pub number : r .number ≡ k
@@ -35,3 +35,4 @@ carried-values TooShort = refl
 carried-values RowLength = refl
 carried-values (OutsideWindow position) = refl
 carried-values (SlotOverfull slot) = refl
+carried-values (WithoutSlot position) = refl

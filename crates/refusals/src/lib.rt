@@ -1,4 +1,4 @@
-// Refusals in the numbers of document 01.
+// Refusals in the numbers of documents 01 and 02.
 //
 // Proved: `in_numbers` gives a refusal's number and what it carries, as day's Answer.antt says. Assumes nothing.
 ghost use mathlib.Core.List.{[], _∷_};
@@ -6,7 +6,7 @@ ghost use Rattle.day.specs.Answer.{number, carried};
 ghost use Rattle.refusals.specs.Numbers.{Tells};
 use day::Refusal;
 
-// A refusal in the numbers of document 01: its own, and the values that it carries, 0 where there are fewer than three.
+// A refusal in the numbers of documents 01 and 02: its own, and the values that it carries, 0 where there are fewer than three.
 pub struct Numbered {
     pub number: u64,
     pub first: u64,
@@ -60,5 +60,6 @@ pub fn in_numbers(refusal: Refusal) -> Numbered
         Refusal::RowLength => carrying(11, 0),
         Refusal::OutsideWindow(position) => carrying(12, position),
         Refusal::SlotOverfull(slot) => carrying(13, slot as usize),
+        Refusal::WithoutSlot(position) => carrying(14, position),
     }
 }

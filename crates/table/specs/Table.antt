@@ -1,4 +1,5 @@
--- P1 to P13 of document 01, its edges and the refusals 8, 11, 12 and 13, as one table, and the one theorem that every line holds:
+-- P1 to P13 of document 01, its edges and the refusals 8, 11, 12 and 13, and days compared with the procedures of document 02's order 1,
+-- as one table, and the one theorem that every line holds:
 --     every-line : (l : Line) → List·Memᴰ l table → Holds l
 -- The checker computes one test over the whole table; `line-holds` turns a line's test into its statement. "The best plan" speaks of
 -- every row, through the enumeration of the model's Rows.antt, which is proved complete.
@@ -10,12 +11,13 @@ use mathlib.Core.Option.{Option, none, some}
 use mathlib.Core.List.{List, [], _∷_, List·Memᴰ, List·Memᴰ·not-nil, List·Memᴰ·cases-cons}
 use Prim.Native.Nat.{ℕ}
 use lib.Dec.{T, eqb, eqb→eq}
+use lib.IntN.{ℤ, pos, negsuc}
 use lib.ListN.{replicate}
 use Rattle.fold.specs.Test.{is-true, is-false, both-of, not-of, sameList, same-list}
 use Rattle.fold.specs.Fold
 use Rattle.fold.specs.Fold.{sum, count, each, lowest}
 use Rattle.sets.specs.Mask.{mask}
-use Rattle.model.specs.Model.{Outcome, outcome, cost, allowed, precedes, Best, NoRow, FirstOverbooked, boundInside, lateSupplier, revisiting, revisits, splitBoxes, splitsTo, splits, weighed, inSlots, inWindow, load, roomy, slotMask, lower, bound, exceeds, overbooked}
+use Rattle.model.specs.Model.{Yard, Outcome, outcome, cost, allowed, precedes, Best, NoRow, FirstOverbooked, boundInside, lateSupplier, revisiting, revisits, splitBoxes, splitsTo, splits, weighed, inSlots, inWindow, load, roomy, slotMask, lower, bound, exceeds, overbooked}
 use Rattle.model.specs.Rows.{allRows}
 use Rattle.model.specs.Order.{byKey, pick}
 use Rattle.model.specs.BestOf.{bestOf, is-best, is-none}
@@ -24,6 +26,9 @@ use Rattle.day.specs.Answer.{Answer, gives, refuses}
 use Rattle.day.specs.Sound.{dayLimits, yard, within, headRanges, trainRanges, shaped, sound, numberBefore, trainSound, unused, positionSound, pairSound, receiverSound}
 use Rattle.day.specs.declared.Day.{Day}
 use Rattle.valuing.specs.Valuing.{valued, strays, overfull}
+use Rattle.planning.specs.Planning.{planned}
+use Rattle.procedures.specs.Procedures.{inTime, trackFree, waits, suits, earliest, comeTo, firstCome, waitingSupplier, outsideBoxes, priority, select, fillTo, servedTo, myopic}
+use Rattle.baselines.specs.Baselines.{Comparison, against, compared}
 use Rattle.table.specs.Days.{move, dayOf, openDay, paperDay, numbered}
 
 -- ---- what a line says
@@ -34,6 +39,7 @@ pub data Line : Type 0 where
   later : Day → List ℕ → List ℕ → ℕ → Line
   refused : Day → ℕ → ℕ → ℕ → Line
   accepted : Day → Bool → Line
+  compares : (Yard → List ℕ) → Day → List ℕ → Answer Comparison → Line
 
 abbrev pub Holds : Line → Type 0
 -- valuing the row gives this answer
@@ -47,11 +53,17 @@ Holds (later d r s c) =
 Holds (refused d a b k) = NoRow (yard d) × FirstOverbooked (yard d) a b × (boundInside (yard d) a b ≡ k)
 -- the record is sound, or not
 Holds (accepted d b) = sound dayLimits (yard d) ≡ b
+-- the procedure gives this row, with slot 0 for a train without one, and comparing it with the best plan gives this answer, where the
+-- areas are long enough for every day
+Holds (compares procedure d row a) = (procedure (yard d) ≡ row) × (compared dayLimits (yard d) (procedure (yard d)) 4096 32768 ≡ a)
 
 -- ---- the table
 
 abbrev pub counts : ℕ → ℕ → ℕ → Outcome
 counts revisits splits cost = record { revisits = revisits; splits = splits; cost = cost }
+
+abbrev pub saving : Outcome → ℕ → Answer Comparison
+saving o saved = gives record { outcome = o; saving = pos saved }
 
 unfoldable pub table : List Line
 unfolding dayOf openDay paperDay numbered
@@ -113,6 +125,23 @@ table =
     ∷ values (paperDay 1 1 2) (1 ∷ 1 ∷ 1 ∷ 1 ∷ []) (refuses 12 (4 ∷ []))
     ∷ values (paperDay 1 1 1) (1 ∷ 2 ∷ 2 ∷ 2 ∷ []) (refuses 13 (2 ∷ []))
     ∷ values (openDay 4 1 2 []) (1 ∷ 1 ∷ 2 ∷ 2 ∷ []) (refuses 13 (1 ∷ []))
+    -- P1 and P9 compared: both procedures give P3's row, and 9 comes before 14
+    ∷ compares firstCome (paperDay 1 1 1) (1 ∷ 1 ∷ 2 ∷ 2 ∷ []) (saving (counts 1 10 11) 3)
+    ∷ compares myopic (paperDay 1 1 1) (1 ∷ 1 ∷ 2 ∷ 2 ∷ []) (saving (counts 1 10 11) 3)
+    ∷ compares firstCome (dayOf 3 2 2 1 1 (1 ∷ 1 ∷ 1 ∷ []) (1 ∷ 1 ∷ 1 ∷ []) []) (1 ∷ 1 ∷ 0 ∷ []) (refuses 9 (1 ∷ 1 ∷ 3 ∷ []))
+    ∷ compares myopic (dayOf 3 2 2 1 1 (1 ∷ 1 ∷ 1 ∷ []) (1 ∷ 1 ∷ 1 ∷ []) []) (1 ∷ 1 ∷ 0 ∷ []) (refuses 9 (1 ∷ 1 ∷ 3 ∷ []))
+    -- one procedure leaves a train over and the other does not
+    ∷ compares firstCome (dayOf 2 1 2 1 1 (1 ∷ 1 ∷ []) (2 ∷ 1 ∷ []) (move 1 2 1 ∷ [])) (1 ∷ 0 ∷ []) (refuses 14 (2 ∷ []))
+    ∷ compares myopic (dayOf 2 1 2 1 1 (1 ∷ 1 ∷ []) (2 ∷ 1 ∷ []) (move 1 2 1 ∷ [])) (2 ∷ 1 ∷ []) (saving (counts 0 1 1) 0)
+    ∷ compares firstCome (dayOf 2 1 2 1 1 (1 ∷ 1 ∷ []) (1 ∷ 2 ∷ []) (move 1 2 1 ∷ [])) (1 ∷ 2 ∷ []) (saving (counts 1 1 2) 0)
+    ∷ compares myopic (dayOf 2 1 2 1 1 (1 ∷ 1 ∷ []) (1 ∷ 2 ∷ []) (move 1 2 1 ∷ [])) (0 ∷ 1 ∷ []) (refuses 14 (1 ∷ []))
+    -- both cost more than the plan, each its own
+    ∷ compares firstCome (openDay 3 2 2 (move 2 3 1 ∷ [])) (1 ∷ 1 ∷ 2 ∷ []) (saving (counts 1 1 2) 2)
+    ∷ compares myopic (openDay 3 2 2 (move 2 3 1 ∷ [])) (1 ∷ 2 ∷ 1 ∷ []) (saving (counts 0 1 1) 1)
+    -- (11) counts boxes from earlier slots: without them, as in the source's Table 2, the row would be 1 2 3
+    ∷ compares myopic (openDay 3 1 3 (move 2 1 1 ∷ [])) (1 ∷ 3 ∷ 2 ∷ []) (saving (counts 0 1 1) 0)
+    -- train 4 waits still when its window has passed, and train 2 pays for it in slot 2
+    ∷ compares myopic (dayOf 4 1 4 1 1 (1 ∷ 2 ∷ 1 ∷ 1 ∷ []) (3 ∷ 4 ∷ 2 ∷ 1 ∷ []) (move 2 4 1 ∷ move 3 1 1 ∷ [])) (1 ∷ 3 ∷ 2 ∷ 0 ∷ []) (refuses 14 (4 ∷ []))
     ∷ []
 
 -- ---- the test of a line
@@ -120,11 +149,20 @@ table =
 sameOutcome : Outcome → Outcome → Bool
 sameOutcome a b = eqb (a .revisits) (b .revisits) && eqb (a .splits) (b .splits) && eqb (a .cost) (b .cost)
 
-sameAnswer : Answer Outcome → Answer Outcome → Bool
-sameAnswer (gives a) (gives b) = sameOutcome a b
-sameAnswer (gives a) (refuses m cs) = false
-sameAnswer (refuses k bs) (gives b) = false
-sameAnswer (refuses k bs) (refuses m cs) = eqb k m && sameList bs cs
+sameInt : ℤ → ℤ → Bool
+sameInt (pos a) (pos b) = eqb a b
+sameInt (pos a) (negsuc b) = false
+sameInt (negsuc a) (pos b) = false
+sameInt (negsuc a) (negsuc b) = eqb a b
+
+sameComparison : Comparison → Comparison → Bool
+sameComparison a b = sameOutcome (a .outcome) (b .outcome) && sameInt (a .saving) (b .saving)
+
+sameAnswer : {X : Type 0} → (X → X → Bool) → Answer X → Answer X → Bool
+sameAnswer same (gives a) (gives b) = same a b
+sameAnswer same (gives a) (refuses m cs) = false
+sameAnswer same (refuses k bs) (gives b) = false
+sameAnswer same (refuses k bs) (refuses m cs) = eqb k m && sameList bs cs
 
 isRow : Option (List ℕ) → List ℕ → Bool
 isRow none row = false
@@ -139,12 +177,14 @@ isInterval none a b = false
 isInterval (some w) a b = eqb (w .first) a && eqb (w .last) b
 
 passes : Line → Bool
-passes (values d row a) = sameAnswer (valued dayLimits (yard d) row) a
+passes (values d row a) = sameAnswer sameOutcome (valued dayLimits (yard d) row) a
 passes (best d row o) = isRow (bestOf (yard d)) row && sameOutcome (outcome (yard d) row) o
 passes (later d r s c) =
     allowed (yard d) r && allowed (yard d) s && eqb (cost (yard d) r) c && eqb (cost (yard d) s) c && precedes (yard d) r s
 passes (refused d a b k) = isNone (bestOf (yard d)) && isInterval (firstOverbooked (yard d)) a b && eqb (boundInside (yard d) a b) k
 passes (accepted d b) = cond b (sound dayLimits (yard d)) (not (sound dayLimits (yard d)))
+passes (compares procedure d row a) =
+    sameList (procedure (yard d)) row && sameAnswer sameComparison (compared dayLimits (yard d) (procedure (yard d)) 4096 32768) a
 
 allPass : List Line → Bool
 allPass [] = true
@@ -152,7 +192,7 @@ allPass (l ∷ ls) = passes l && allPass ls
 
 -- the one computation
 computed : T (allPass table)
-unfolding allPass passes sameOutcome sameAnswer sameList isRow isNone isInterval table sum count each Fold.some lowest mask lateSupplier revisiting revisits splitBoxes splitsTo splits weighed cost inSlots inWindow load roomy allowed slotMask lower precedes bound exceeds overbooked allRows byKey pick bestOf overbookedFrom overbookedFirst overbookedLast firstOverbooked within headRanges trainRanges shaped numberBefore trainSound unused positionSound pairSound receiverSound sound strays overfull valued
+unfolding allPass passes sameOutcome sameInt sameComparison sameAnswer sameList isRow isNone isInterval table sum count each Fold.some lowest mask lateSupplier revisiting revisits splitBoxes splitsTo splits weighed cost inSlots inWindow load roomy allowed slotMask lower precedes bound exceeds overbooked allRows byKey pick bestOf overbookedFrom overbookedFirst overbookedLast firstOverbooked within headRanges trainRanges shaped numberBefore trainSound unused positionSound pairSound receiverSound sound strays overfull valued planned inTime trackFree waits suits earliest comeTo waitingSupplier outsideBoxes priority select fillTo servedTo against compared
 computed = tt
 
 -- ---- from the test to the statement
@@ -167,12 +207,27 @@ same-outcome a b t =
     let ce = eqb→eq (a .cost) (b .cost) c in
     λ i. record { revisits = re i; splits = se i; cost = ce i }
 
-same-answer : (a b : Answer Outcome) → T (sameAnswer a b) → a ≡ b
+same-int : (a b : ℤ) → T (sameInt a b) → a ≡ b
+unfolding sameInt
+same-int (pos a) (pos b) t = ap pos (eqb→eq a b t)
+same-int (pos a) (negsuc b) t = absurd t
+same-int (negsuc a) (pos b) t = absurd t
+same-int (negsuc a) (negsuc b) t = ap negsuc (eqb→eq a b t)
+
+same-comparison : (a b : Comparison) → T (sameComparison a b) → a ≡ b
+unfolding sameComparison
+same-comparison a b t =
+    let (o, s) = both-of (sameOutcome (a .outcome) (b .outcome)) (sameInt (a .saving) (b .saving)) t in
+    let oe = same-outcome (a .outcome) (b .outcome) o in
+    let se = same-int (a .saving) (b .saving) s in
+    λ i. record { outcome = oe i; saving = se i }
+
+same-answer : {X : Type 0} (same : X → X → Bool) → ((a b : X) → T (same a b) → a ≡ b) → (a b : Answer X) → T (sameAnswer same a b) → a ≡ b
 unfolding sameAnswer
-same-answer (gives a) (gives b) t = ap gives (same-outcome a b t)
-same-answer (gives a) (refuses m cs) t = absurd t
-same-answer (refuses k bs) (gives b) t = absurd t
-same-answer (refuses k bs) (refuses m cs) t =
+same-answer same is (gives a) (gives b) t = ap gives (is a b t)
+same-answer same is (gives a) (refuses m cs) t = absurd t
+same-answer same is (refuses k bs) (gives b) t = absurd t
+same-answer same is (refuses k bs) (refuses m cs) t =
     let (p, q) = both-of (eqb k m) (sameList bs cs) t in
     ap₂ refuses (eqb→eq k m p) (same-list bs cs q)
 
@@ -219,13 +274,17 @@ module _ (d : Day) where
 
 line-holds : (l : Line) → T (passes l) → Holds l
 unfolding passes
-line-holds (values d row a) t = same-answer (valued dayLimits (yard d) row) a t
+line-holds (values d row a) t = same-answer sameOutcome same-outcome (valued dayLimits (yard d) row) a t
 line-holds (best d row o) t =
     let (p, q) = both-of (isRow (bestOf (yard d)) row) (sameOutcome (outcome (yard d) row) o) t in
     (is-best (yard d) row (is-row (bestOf (yard d)) row p), same-outcome (outcome (yard d) row) o q)
 line-holds (later d r s c) t = later-holds d r s c t
 line-holds (refused d a b k) t = refused-holds d a b k t
 line-holds (accepted d b) t = accepted-holds d b t
+line-holds (compares procedure d row a) t =
+    let found = compared dayLimits (yard d) (procedure (yard d)) 4096 32768 in
+    let (p, q) = both-of (sameList (procedure (yard d)) row) (sameAnswer sameComparison found a) t in
+    (same-list (procedure (yard d)) row p, same-answer sameComparison same-comparison found a q)
 
 all-hold : (ls : List Line) → T (allPass ls) → (l : Line) → List·Memᴰ l ls → Holds l
 unfolding allPass

@@ -7,10 +7,11 @@ use Prim.Native.Nat.{ℕ}
 use lib.Dec.{leb}
 use lib.ListN.{length, getD, drop}
 use Rattle.model.specs.Model.{Yard, Outcome}
-use Rattle.day.specs.Answer.{Answer, gives, refuses, must, checked}
+use Rattle.day.specs.Answer.{Answer, gives, refuses, onGiven, must, checked}
 use Rattle.day.specs.declared.Limits.{Limits}
 use Rattle.valuing.specs.Valuing.{valued}
 use Rattle.dayfile.specs.Reading.{readDay}
+use Rattle.baselines.specs.Baselines.{Comparison, compared}
 
 abbrev pub code : {X : Type 0} → Answer X → ℕ
 code (gives x) = 0
@@ -28,14 +29,21 @@ abbrev pub line : Answer Yard → ℕ
 line (gives y) = 0
 line (refuses k carries) = getD carries 0 0
 
--- ---- valuing a row for a text: 10 where there is no room for three numbers, what reading refuses, else what valuing answers
+-- ---- numbers for a text: 10 where there is no room for three of them, what reading refuses, else what is answered for the day
 
-abbrev pub onDay : Answer Yard → (Yard → Answer Outcome) → Answer Outcome
-onDay (gives y) f = f y
-onDay (refuses k carries) f = refuses k carries
+abbrev pub forDay : {X : Type 0} → Limits → List ℕ → ℕ → (Yard → Answer X) → Answer X
+forDay l text size f = checked (must (leb 3 size) 10 (0 ∷ []) ∷ []) (onGiven (readDay l text) f)
 
 unfoldable pub valueText : Limits → List ℕ → List ℕ → ℕ → Answer Outcome
-valueText l text row size = checked (must (leb 3 size) 10 (0 ∷ []) ∷ []) (onDay (readDay l text) λ y. valued l y row)
+valueText l text row size = forDay l text size λ y. valued l y row
+
+-- the areas are local, and long enough for every day
+unfoldable pub compareText : (Yard → List ℕ) → Limits → List ℕ → ℕ → Answer Comparison
+compareText procedure l text size = forDay l text size λ y. compared l y (procedure y) 4096 32768
+
+abbrev pub outcomes : Answer Comparison → Answer Outcome
+outcomes (gives c) = gives (c .outcome)
+outcomes (refuses k carries) = refuses k carries
 
 -- revisits, split moves and cost, or what the refusal carries, 0 where it carries fewer than three values
 abbrev pub three : Answer Outcome → List ℕ

@@ -85,6 +85,12 @@ cast-carrying c = search needs
 carrying-requires-12 : tie.Need-carrying-requires-12
 carrying-requires-12 c κs = search needs
 
+enum-known-refusal-11 : tie.Need-enum-known-refusal-11
+enum-known-refusal-11 c = search needs
+
+carrying-requires-13 : tie.Need-carrying-requires-13
+carrying-requires-13 c κs = search needs
+
 returns : tie.Need-returns
 returns c = rw (c .before .before .refusal .given .1) (c .carrying .ensures)
 
@@ -124,6 +130,9 @@ returns-12 c = rw (c .before .before .refusal9 .given .1) (c .carrying11 .ensure
 returns-13 : tie.Need-returns-13
 returns-13 c = rw (c .before .before .refusal10 .given .1) (c .carrying12 .ensures)
 
+returns-14 : tie.Need-returns-14
+returns-14 c = rw (c .before .before .refusal11 .given .1) (c .carrying13 .ensures)
+
 pub in-numbers-spec : {M : Type 1} → statement M
 in-numbers-spec =
     tie.close
@@ -155,6 +164,8 @@ in-numbers-spec =
     enum-known-refusal-10
     cast-carrying
     carrying-requires-12
+    enum-known-refusal-11
+    carrying-requires-13
     returns
     returns-2
     returns-3
@@ -167,4 +178,5 @@ in-numbers-spec =
     returns-10
     returns-11
     returns-12
-    returns-13)
+    returns-13
+    returns-14)

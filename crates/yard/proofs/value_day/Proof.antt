@@ -13,8 +13,8 @@ value-assignment-requires c κs = search needs
 enum-known-value : tie.Need-enum-known-value
 enum-known-value c = search needs
 
-store-three-requires : tie.Need-store-three-requires
-store-three-requires c κs = search needs
+store-value-requires : tie.Need-store-value-requires
+store-value-requires c κs = search needs
 
 enum-known-refusal : tie.Need-enum-known-refusal
 enum-known-refusal c = search needs
@@ -26,19 +26,13 @@ same-length : tie.Need-same-length
 same-length c = search needs
 
 returns : tie.Need-returns
-returns c =
-    let t = c .before .before in
-    let k = t .before .before in
-    told-values (sym (ap answer (k .before .value .given .1)) ∙ k .before .before .before .value-assignment .ensures) (t .store-three .ensures)
+returns c = told-values (sym (ap answer (c .before .before .before .before .before .value .given .1)) ∙ c .before .before .before .before .before .before .before .value-assignment .ensures) (c .before .before .store-value .ensures)
 
 same-length-2 : tie.Need-same-length-2
 same-length-2 c = search needs
 
 returns-2 : tie.Need-returns-2
-returns-2 c =
-    let t = c .before .before in
-    let k = t .before .before in
-    told-same (sym (ap answer (k .before .refusal .given .1)) ∙ k .before .before .before .value-assignment .ensures) (t .tell .ensures)
+returns-2 c = told-same (sym (ap answer (c .before .before .before .before .before .refusal .given .1)) ∙ c .before .before .before .before .before .before .before .value-assignment .ensures) (c .before .before .tell .ensures)
 
 pub value-day-spec : {M : Type 1} → statement M
 value-day-spec =
@@ -46,7 +40,7 @@ value-day-spec =
     (tie.spec
     value-assignment-requires
     enum-known-value
-    store-three-requires
+    store-value-requires
     enum-known-refusal
     tell-requires
     same-length

@@ -1,17 +1,24 @@
 -- `yard::yard_value` meets its contract. The room, then the two cases of reading.
 -- Assumes nothing.
 use mathlib.Core.Path.{sym, ap, _∙_}
+use lib.Dec.{leb→le}
+use denote.Ref.{now}
+use borrow.Author.Tests.{not-true, not-false}
+use Rattle.fold.specs.Test.{of-true}
+use Rattle.day.specs.Answer.{onGiven}
 use Rattle.day.specs.Sound.{dayLimits, yard}
-use Rattle.valuing.specs.Valuing.{valued}
 use Rattle.dayread.specs.Whole.{answer}
-use Rattle.yard.specs.Interface.{onDay}
+use Rattle.valuing.specs.Valuing.{valued}
 use Rattle.yard.specs.Laws.{no-room, told}
 use borrow.Author.Needs.{needs}
 use Rattle.yard.proofs.yard_value.Statement.{statement}
 use Rattle.yard.proofs.yard_value.Tie as tie
 
+is-room-requires : tie.Need-is-room-requires
+is-room-requires c κs = search needs
+
 returns : tie.Need-returns
-returns c = no-room _ _ _ _ (c .if1 .taken)
+returns c = no-room _ _ _ _ (sym (c .before .is-room .ensures) ∙ not-true (c .before .is-room .result) (c .if1 .taken))
 
 read-day-requires : tie.Need-read-day-requires
 read-day-requires c κs = search needs
@@ -20,42 +27,37 @@ enum-told : tie.Need-enum-told
 enum-told c = search needs
 
 value-day-requires : tie.Need-value-day-requires
-value-day-requires c κs = search needs
+value-day-requires c κs = leb→le 3 _ (of-true (sym (c .before .before .before .before .before .is-room .ensures) ∙ not-false (c .before .before .before .before .before .is-room .result) (c .before .before .before .before .if1 .left)))
 
 enum-known-outcome : tie.Need-enum-known-outcome
 enum-known-outcome c = search needs
 
 tell-requires : tie.Need-tell-requires
-tell-requires c κs = search needs
+tell-requires c κs = leb→le 3 _ (of-true (sym (c .before .before .before .before .before .before .is-room .ensures) ∙ not-false (c .before .before .before .before .before .before .is-room .result) (c .before .before .before .before .before .if1 .left)))
 
 same-length : tie.Need-same-length
 same-length c = search needs
 
 returns-2 : tie.Need-returns-2
-returns-2 c =
-    let t = c .before .before in
-    let k = t .before .before in
-    let d = k .before .before in
-    let s = d .before .before .before .before .before in
-    let e = sym (ap (λ o. answer o (yard (d .read-day .result .day))) (k .enum-told .given .1)) ∙ d .read-day .ensures .0 in
-    told _ _ _ _ (d .before .if1 .left) (sym (ap (λ r. onDay r λ y. valued dayLimits y (s .args .row .now)) e)) (t .value-day .ensures)
+returns-2 c = let d = c .before .before .before .before .before .before in
+    let e = sym (ap (λ o. answer o (yard (d .read-day .result .day))) (c .before .before .before .before .enum-told .given .1)) ∙ d .read-day .ensures .0 in
+    let f = sym (ap (λ r. onGiven r λ y. valued dayLimits y (now (c .before .before .before .before .before .before .before .before .before .before .before .before .args .row))) e) in
+    told _ _ _ _ (sym (c .before .before .before .before .before .before .before .before .is-room .ensures) ∙ not-false (c .before .before .before .before .before .before .before .before .is-room .result) (c .before .before .before .before .before .before .before .if1 .left)) f (c .before .before .value-day .ensures)
 
 same-length-2 : tie.Need-same-length-2
 same-length-2 c = search needs
 
 returns-3 : tie.Need-returns-3
-returns-3 c =
-    let t = c .before .before in
-    let k = t .before .before in
-    let d = k .before .before .before in
-    let s = d .before .before .before .before .before in
-    let e = sym (ap (λ o. answer o (yard (d .read-day .result .day))) (k .before .outcome .given .1)) ∙ d .read-day .ensures .0 in
-    told _ _ _ _ (d .before .if1 .left) (sym (ap (λ r. onDay r λ y. valued dayLimits y (s .args .row .now)) e)) (t .tell .ensures)
+returns-3 c = let d = c .before .before .before .before .before .before .before in
+    let e = sym (ap (λ o. answer o (yard (d .read-day .result .day))) (c .before .before .before .before .before .outcome .given .1)) ∙ d .read-day .ensures .0 in
+    let f = sym (ap (λ r. onGiven r λ y. valued dayLimits y (now (c .before .before .before .before .before .before .before .before .before .before .before .before .before .args .row))) e) in
+    told _ _ _ _ (sym (c .before .before .before .before .before .before .before .before .before .is-room .ensures) ∙ not-false (c .before .before .before .before .before .before .before .before .before .is-room .result) (c .before .before .before .before .before .before .before .before .if1 .left)) f (c .before .before .tell .ensures)
 
 pub yard-value-spec : {M : Type 1} → statement M
 yard-value-spec =
     tie.close
     (tie.spec
+    is-room-requires
     returns
     read-day-requires
     enum-told

@@ -1,0 +1,57 @@
+-- What the two calls of order 1 of document 02 (its yardsticks) answer, for any record and any areas: planning's refusals 8, 10 and 9, then
+-- 14 with the lowest position that is left without a slot, else the three numbers of the procedure's row and the saving.
+-- Assumes nothing.
+use mathlib.Core.List.{List, [], _∷_}
+use Prim.Native.Nat.{ℕ, suc}
+use lib.Dec.{eqb}
+use lib.IntN.{ℤ, pos, _-ℤ_}
+use Rattle.model.specs.Model.{Yard, Outcome, outcome, cost}
+use Rattle.day.specs.Answer.{Answer, gives, refuses, refusal, onGiven, Check, must, checked}
+use Rattle.day.specs.declared.Limits.{Limits}
+use Rattle.valuing.specs.Valuing.{outcomeOf}
+use Rattle.planning.specs.Planning.{costWords, choiceWords, planned, begins, openWords}
+use Rattle.procedures.specs.Procedures.{leftOver}
+use Rattle.baselines.specs.declared.Baseline.{Baseline}
+use Rattle.baselines.specs.declared.Verdict.{Verdict}
+use Rattle.baselines.specs.declared.Verdict.the-variants.{Compared, Refused}
+
+-- a row's three numbers, and its cost less the planned cost
+pub record Comparison : Type 0 where
+  pub outcome : Outcome
+  pub saving : ℤ
+
+-- ---- the code's answer in the numbers of 01 and 02
+
+abbrev pub comparisonOf : Baseline → Comparison
+comparisonOf b = record { outcome = outcomeOf (b .value); saving = b .saving }
+
+abbrev pub answer : Verdict → Comparison → Answer Comparison
+answer Compared c = gives c
+answer (Refused r) c = refusal r
+
+-- the numbers beside the answer, zeros with a refusal
+abbrev pub comparisonOrZero : Answer Comparison → Comparison
+comparisonOrZero (gives c) = c
+comparisonOrZero (refuses k carries) = record { outcome = record { revisits = 0; splits = 0; cost = 0 }; saving = pos 0 }
+
+-- ---- the answer
+
+-- 14 every train has a slot
+abbrev pub slotChecks : Yard → List ℕ → List Check
+slotChecks y row = must (eqb (leftOver (y .trains) row) (y .trains)) 14 (suc (leftOver (y .trains) row) ∷ []) ∷ []
+
+-- a row on a day whose planned cost is given
+unfoldable pub against : Yard → List ℕ → ℕ → Answer Comparison
+against y row best = checked (slotChecks y row) (gives record { outcome = outcome y row; saving = pos (cost y row) -ℤ pos best })
+
+-- planning is lent the two areas; no row is lent, so none is too short
+unfoldable pub compared : Limits → Yard → List ℕ → ℕ → ℕ → Answer Comparison
+compared l y row costs choices = onGiven (planned l y costs choices (y .trains)) λ best. against y row (best .cost)
+
+-- ---- lent memory: of the areas only the words that planning needs may change, and none where 8 or 10 is given
+
+abbrev pub openCosts : Limits → Yard → ℕ → ℕ → ℕ
+openCosts l y costs choices = openWords (begins l y costs choices (y .trains)) (costWords y)
+
+abbrev pub openChoices : Limits → Yard → ℕ → ℕ → ℕ
+openChoices l y costs choices = openWords (begins l y costs choices (y .trains)) (choiceWords y)

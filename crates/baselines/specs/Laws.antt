@@ -1,0 +1,136 @@
+-- How the calls come to their answers: a row that leaves a train over or not, the refusals of planning, and planning with a row of 12 bytes.
+-- Assumes nothing.
+use mathlib.Core.Path.{_≡_, refl, sym, ap, ap₂, _∙_, subst}
+use mathlib.Core.Bool.{Bool, true, false, cond, _&&_}
+use mathlib.Core.List.{List, [], _∷_, _++_}
+use mathlib.Core.Option.{Option, none, some}
+use Prim.Native.Nat.{ℕ, zero, suc, _+_, _≤_, _<_}
+use native.Mathlib.Numerals.{add-one}
+use native.Mathlib.Omega.{arith}
+use lib.Dec.{T, leb}
+use lib.IntN.{ℤ, pos, _-ℤ_}
+use lib.ListN.{length, take, drop, replicate, length-append}
+use lib.Seq.{take-append-seam}
+use borrow.Author.Tests.{eq-eqb, ne-eqb, le-leb}
+use Rattle.fold.specs.Test.{of-true}
+use Rattle.model.specs.Model.{Yard, Outcome, outcome, cost, Best}
+use Rattle.model.specs.BestOf.{bestOf, is-best}
+use Rattle.day.specs.Answer.{Answer, gives, refuses}
+use Rattle.day.specs.AnswerLaws.{checked-gives}
+use Rattle.day.specs.Sound.{dayLimits, sound}
+use Rattle.day.specs.SoundLaws.{sound-is}
+use Rattle.day.specs.Most.{cost-most}
+use Rattle.day.specs.declared.Limits.{Limits}
+use Rattle.valuing.specs.Valuing.{outcomeOf}
+use Rattle.valuing.specs.declared.Value.{Value}
+use Rattle.planning.specs.Planning.{suffices, begins, bestAnswer, planChecks, planned}
+use Rattle.procedures.specs.Procedures.{leftOver}
+use Rattle.baselines.specs.Baselines.{Comparison, comparisonOf, answer, comparisonOrZero, against, compared}
+use Rattle.baselines.specs.declared.Baseline.{Baseline}
+use Rattle.baselines.specs.declared.Verdict.the-variants.{Compared}
+
+-- the code's record says an answer, with its numbers or zeros beside it
+pub record Says (a : Answer Comparison) (b : Baseline) : Type 0 where
+  pub says : answer (b .verdict) (comparisonOf b) ≡ a
+  pub beside : comparisonOf b ≡ comparisonOrZero a
+
+-- ---- a row against the planned cost
+
+module _ (y : Yard) (row : List ℕ) (best : ℕ) {k : ℕ} (found : k ≡ leftOver (y .trains) row) where
+  -- train k + 1 is the first one without a slot
+  pub says-left : {b : Baseline} → k < y .trains → Says (refuses 14 ((k + 1) ∷ [])) b → Says (against y row best) b
+  unfolding against
+  says-left {b} h = subst (λ a. Says a b) (rw (← found, ne-eqb k (y .trains) (λ q. omega arith), add-one))
+
+  -- every train has one
+  pub says-complete : {v : Value} {s : ℤ} → k ≡ y .trains → outcomeOf v ≡ outcome y row → s ≡ pos (v .cost) -ℤ pos best
+      → Says (against y row best) record { verdict = Compared; value = v; saving = s }
+  unfolding against cost
+  says-complete {v} {s} h e f =
+      let said : against y row best ≡ gives record { outcome = outcome y row; saving = pos (cost y row) -ℤ pos best } = rw (← found, eq-eqb k (y .trains) h) in
+      let same : _≡_ {A = Comparison} record { outcome = outcomeOf v; saving = s } record { outcome = outcome y row; saving = pos (cost y row) -ℤ pos best } =
+      ap₂ (λ (o : Outcome) (z : ℤ). record { outcome = o; saving = z }) e (f ∙ ap (λ (o : Outcome). pos (o .cost) -ℤ pos best) e) in
+      record { says = ap gives same ∙ sym said; beside = same ∙ sym (ap comparisonOrZero said) }
+
+-- no cost of a sound day is too great for `saving_of`
+pub cost-fits : (y : Yard) (row : List ℕ) {o : Outcome} → T (sound dayLimits y) → o ≡ outcome y row → o .cost ≤ 2206694520
+unfolding cost
+cost-fits y row {o} s e = omega (arith, cost-most y row s, ap (λ (o : Outcome). o .cost) e)
+
+-- ---- planning with a row of its own, of 12 bytes
+
+module _ (y : Yard) (costs choices : ℕ) where
+  room : sound dayLimits y ≡ true → leb (y .trains) 12 ≡ leb (y .trains) (y .trains)
+  room s = le-leb (y .trains) 12 (sound-is dayLimits y (of-true s) .trains .1) ∙ sym (le-leb (y .trains) (y .trains) (omega arith))
+
+  pub same-begins : begins dayLimits y costs choices 12 ≡ begins dayLimits y costs choices (y .trains)
+  same-begins = go (sound dayLimits y) room
+    where
+      go : (s : Bool) → (s ≡ true → leb (y .trains) 12 ≡ leb (y .trains) (y .trains)) → (s && suffices y costs choices 12) ≡ (s && suffices y costs choices (y .trains))
+      go false e = refl
+      go true e = rw (e refl)
+
+  pub same-planned : planned dayLimits y costs choices 12 ≡ planned dayLimits y costs choices (y .trains)
+  unfolding planned
+  same-planned = go (sound dayLimits y) room
+    where
+      go : (s : Bool) → (s ≡ true → leb (y .trains) 12 ≡ leb (y .trains) (y .trains))
+          → cond s (cond (suffices y costs choices 12) (bestAnswer y (bestOf y)) (refuses 10 (0 ∷ []))) (refuses 8 (0 ∷ []))
+          ≡ cond s (cond (suffices y costs choices (y .trains)) (bestAnswer y (bestOf y)) (refuses 10 (0 ∷ []))) (refuses 8 (0 ∷ []))
+      go false e = refl
+      go true e = rw (e refl)
+
+-- ---- a plan is the best row of a sound day
+
+pub record FromBest (l : Limits) (y : Yard) (o : Outcome) : Type 0 where
+  pub isSound : T (sound l y)
+  pub row : List ℕ
+  pub best : Best y row
+  pub numbers : o ≡ outcome y row
+
+pub from-best : (l : Limits) (y : Yard) (costs choices bytes : ℕ) (o : Outcome) → planned l y costs choices bytes ≡ gives o → FromBest l y o
+unfolding planned
+from-best l y costs choices bytes o e =
+    let (h, b) = checked-gives (planChecks l y costs choices bytes) (bestAnswer y (bestOf y)) o e in
+    go (h .0) (bestOf y) refl b
+  where
+    gives-same : {a b : Outcome} → gives a ≡ gives b → a ≡ b
+    gives-same e = cc
+
+    go : T (sound l y) → (b : Option (List ℕ)) → bestOf y ≡ b → bestAnswer y b ≡ gives o → FromBest l y o
+    go s none q g = absurd (let z : _≡_ {A = ℕ} 0 1 = cc in omega arith)
+    go s (some row) q g = record { isSound = s; row = row; best = is-best y row q; numbers = sym (gives-same g) }
+
+-- ---- the answer, from planning's
+
+module _ (l : Limits) (y : Yard) (row : List ℕ) (costs choices : ℕ) {b : Baseline} where
+  pub says-against : {o : Outcome} → planned l y costs choices (y .trains) ≡ gives o → Says (against y row (o .cost)) b → Says (compared l y row costs choices) b
+  unfolding compared
+  says-against e s = rw e s
+
+  pub says-refused : {k : ℕ} {carries : List ℕ} → planned l y costs choices (y .trains) ≡ refuses k carries → Says (refuses k carries) b → Says (compared l y row costs choices) b
+  unfolding compared
+  says-refused e s = rw e s
+
+-- ---- a procedure's row at the front of a local one of 12 bytes
+
+abbrev pub zeros : List ℕ
+zeros = replicate 12 0
+
+pub zeros-front : (n : ℕ) → n ≤ 12 → take n zeros ≡ replicate n 0
+zeros-front n h = go n 12 h
+  where
+    go : (n m : ℕ) → n ≤ m → take {A = ℕ} n (replicate m 0) ≡ replicate n 0
+    go zero m h = refl
+    go (suc n) zero h = absurd (omega arith)
+    go (suc n) (suc m) h = ap (λ (l : List ℕ). 0 ∷ l) (go n m (omega arith))
+
+module _ (n : ℕ) (row : List ℕ) (long : length row ≡ n) where
+  pub front-is : take n (row ++ drop n zeros) ≡ row
+  front-is = subst (λ k. take k (row ++ drop n zeros) ≡ row) long (take-append-seam row (drop n zeros))
+
+  pub front-long : n ≡ length (take n (row ++ drop n zeros))
+  front-long = sym (ap length front-is ∙ long)
+
+  pub front-fits : n ≤ length (row ++ drop n zeros)
+  front-fits = omega (arith, length-append row (drop n zeros), long)

@@ -1,0 +1,3 @@
+pub mod Baselines
+pub mod Laws
+pub mod Savings

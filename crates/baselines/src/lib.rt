@@ -1,0 +1,141 @@
+// What planning saves (document 02, order 1): a day's first come, first served and its myopic start procedure, each compared with the
+// best plan. They are the order's yardsticks.
+//
+// Proved: for every record and all lent memory each call answers what `compared` of specs/Baselines.antt says of its procedure's row, with
+// zeros beside a refusal; of the two areas only the words that planning needs may change. specs/Savings.antt: no saving is below zero.
+// Assumes nothing.
+ghost use mathlib.Core.Path.{_≡_};
+ghost use Prim.Native.Nat.{_≤_};
+ghost use lib.Dec.{T};
+ghost use lib.ListN.{length};
+ghost use Rattle.day.specs.Answer.{refusal};
+ghost use Rattle.day.specs.Sound.{dayLimits, yard, sound};
+ghost use Rattle.planning.specs.Planning.{answer as planAnswer, planned, Stays};
+ghost use Rattle.procedures.specs.Procedures.{firstCome, myopic};
+ghost use Rattle.baselines.specs.Baselines.{answer, comparisonOf, comparisonOrZero, against, compared, openCosts, openChoices};
+ghost use Rattle.baselines.specs.Laws.{Says};
+use day::Day;
+use day::Refusal;
+use planning::Planned;
+use valuing::Revisits;
+use valuing::Splits;
+use valuing::Value;
+
+pub enum Verdict {
+    Compared,
+    Refused(Refusal),
+}
+
+// The three numbers of a procedure's row, and the saving, its cost less the planned cost; zeros with a refusal.
+pub struct Baseline {
+    pub verdict: Verdict,
+    pub value: Value,
+    pub saving: i64,
+}
+
+fn refused(given: Refusal) -> Baseline
+    ensures { λ r. ⌜ Says (refusal given) r ⌝ }
+{
+    Baseline {
+        verdict: Verdict::Refused(given),
+        value: Value {
+            revisits: Revisits(0),
+            splits: Splits(0),
+            cost: 0,
+        },
+        saving: 0,
+    }
+}
+
+// Compares a row of a sound day with the planned cost: 14 where it leaves a train without a slot.
+fn compare(day: Day, row: &[u8], best: u64) -> Baseline
+    requires { ⌜ T (sound dayLimits (yard day)) × (day .trains ≤ length (now row)) × (best ≤ 2206694520) ⌝ }
+    ensures { λ r. ⌜ Says (against (yard day) (now (row .entry)) best) r ⌝ }
+{
+    let n = day.trains;
+    let left = procedures::left_over(row, n);
+    if left < n {
+        return refused(Refusal::WithoutSlot(left + 1));
+    }
+    let boxes = day.boxes;
+    let value = valuing::value_slots(&boxes, 12, row, n, day.revisit, day.split);
+    Baseline {
+        verdict: Verdict::Compared,
+        value: value,
+        saving: procedures::saving_of(value.cost, best),
+    }
+}
+
+fn compare_first_come(day: Day, best: u64) -> Baseline
+    requires { ⌜ T (sound dayLimits (yard day)) × (best ≤ 2206694520) ⌝ }
+    ensures { λ r. ⌜ Says (against (yard day) (firstCome (yard day)) best) r ⌝ }
+{
+    let first = day.first;
+    let last = day.last;
+    let n = day.trains;
+    let mut row = [0u8; 12];
+    procedures::come_first(&first, &last, n, day.tracks, day.slots, &mut row[..n]);
+    compare(day, &row[..n], best)
+}
+
+fn compare_myopic(day: Day, best: u64) -> Baseline
+    requires { ⌜ T (sound dayLimits (yard day)) × (best ≤ 2206694520) ⌝ }
+    ensures { λ r. ⌜ Says (against (yard day) (myopic (yard day)) best) r ⌝ }
+{
+    let boxes = day.boxes;
+    let first = day.first;
+    let last = day.last;
+    let n = day.trains;
+    let mut row = [0u8; 12];
+    procedures::serve_myopic(
+        &boxes,
+        12,
+        &first,
+        &last,
+        &mut row[..n],
+        n,
+        day.tracks,
+        day.slots,
+        day.revisit,
+        day.split,
+    );
+    compare(day, &row[..n], best)
+}
+
+// Plans a day for its cost alone: the row is local, and long enough for every sound day.
+fn plan_cost(day: Day, cost: &mut [u64], choice: &mut [u16]) -> Planned
+    ensures { λ r. ⌜ planAnswer r ≡ planned dayLimits (yard day) (length (now (cost .entry))) (length (now (choice .entry))) (day .trains) ⌝ }
+    ensures { λ r. ⌜ Stays (openCosts dayLimits (yard day) (length (now (cost .entry))) (length (now (choice .entry)))) (now (cost .entry)) (now (cost .exit)) ⌝ }
+    ensures { λ r. ⌜ Stays (openChoices dayLimits (yard day) (length (now (cost .entry))) (length (now (choice .entry)))) (now (choice .entry)) (now (choice .exit)) ⌝ }
+{
+    let mut row = [0u8; 12];
+    planning::plan(day, cost, choice, &mut row)
+}
+
+// First come, first served against the best plan: the trains in file order each take the earliest slot in their window with a track free.
+// `cost` needs 2^n words, `choice` T × 2^n words: else 10.
+pub fn first_come_first_served(day: Day, cost: &mut [u64], choice: &mut [u16]) -> Baseline
+    ensures { λ r. ⌜ answer (r .verdict) (comparisonOf r) ≡ compared dayLimits (yard day) (firstCome (yard day)) (length (now (cost .entry))) (length (now (choice .entry))) ⌝ }
+    ensures { λ r. ⌜ comparisonOf r ≡ comparisonOrZero (compared dayLimits (yard day) (firstCome (yard day)) (length (now (cost .entry))) (length (now (choice .entry)))) ⌝ }
+    ensures { λ r. ⌜ Stays (openCosts dayLimits (yard day) (length (now (cost .entry))) (length (now (choice .entry)))) (now (cost .entry)) (now (cost .exit)) ⌝ }
+    ensures { λ r. ⌜ Stays (openChoices dayLimits (yard day) (length (now (cost .entry))) (length (now (choice .entry)))) (now (choice .entry)) (now (choice .exit)) ⌝ }
+{
+    match plan_cost(day, cost, choice) {
+        Planned::Plan(best) => compare_first_come(day, best.cost),
+        Planned::Refused(refusal) => refused(refusal),
+    }
+}
+
+// The myopic start procedure (source 000, section 4.2) against the best plan: slot after slot and track after track the train that adds
+// least by (11), of those whose window holds the slot. The areas are as above.
+pub fn myopic_start(day: Day, cost: &mut [u64], choice: &mut [u16]) -> Baseline
+    ensures { λ r. ⌜ answer (r .verdict) (comparisonOf r) ≡ compared dayLimits (yard day) (myopic (yard day)) (length (now (cost .entry))) (length (now (choice .entry))) ⌝ }
+    ensures { λ r. ⌜ comparisonOf r ≡ comparisonOrZero (compared dayLimits (yard day) (myopic (yard day)) (length (now (cost .entry))) (length (now (choice .entry)))) ⌝ }
+    ensures { λ r. ⌜ Stays (openCosts dayLimits (yard day) (length (now (cost .entry))) (length (now (choice .entry)))) (now (cost .entry)) (now (cost .exit)) ⌝ }
+    ensures { λ r. ⌜ Stays (openChoices dayLimits (yard day) (length (now (cost .entry))) (length (now (choice .entry)))) (now (choice .entry)) (now (choice .exit)) ⌝ }
+{
+    match plan_cost(day, cost, choice) {
+        Planned::Plan(best) => compare_myopic(day, best.cost),
+        Planned::Refused(refusal) => refused(refusal),
+    }
+}
