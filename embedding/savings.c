@@ -1,30 +1,19 @@
-/* What planning saves, from C: for each day file the cost of first come, first served and of the myopic procedure, and the saving.
+/* What planning saves, from C: reads a day file and prints what first come, first served and the myopic procedure would cost, and the
+ * saving.
  *
  *     rt staticlib yard
  *     cc -Iinclude -o target/savings embedding/savings.c target/staticlib/libyard.a
- *     target/savings examples/hub-10.day examples/hub-12.day
+ *     target/savings < examples/hub-10.day
  */
 #include <inttypes.h>
 #include <stdio.h>
 
 #include "yard.h"
 
-/* Longer texts are no day files: the first 4,096 bytes decide. */
+/* Longer texts are no day files: their first 4,096 bytes are refused too. */
 enum { MOST_TEXT = 4096 };
 
 typedef uint64_t procedure(const uint8_t *, size_t, uint64_t *, size_t, int64_t *);
-
-static size_t read_file(const char *name, uint8_t *text)
-{
-    FILE *file = fopen(name, "rb");
-    if (!file) {
-        perror(name);
-        return 0;
-    }
-    size_t length = fread(text, 1, MOST_TEXT, file);
-    fclose(file);
-    return length;
-}
 
 static void print_saving(const char *name, procedure *call, const uint8_t *text, size_t length)
 {
@@ -32,21 +21,18 @@ static void print_saving(const char *name, procedure *call, const uint8_t *text,
     int64_t saving;
     uint64_t refusal = call(text, length, numbers, 3, &saving);
     if (refusal == 0)
-        printf("  %s: revisits %" PRIu64 ", splits %" PRIu64 ", cost %" PRIu64 "; planning saves %" PRId64 "\n", name, numbers[0], numbers[1],
+        printf("%s: revisits %" PRIu64 ", splits %" PRIu64 ", cost %" PRIu64 "; planning saves %" PRId64 "\n", name, numbers[0], numbers[1],
                numbers[2], saving);
     else
-        printf("  %s: refusal %" PRIu64 ", %" PRIu64 "\n", name, refusal, numbers[0]);
+        printf("%s: refusal %" PRIu64 ", %" PRIu64 "\n", name, refusal, numbers[0]);
 }
 
-int main(int argc, char **argv)
+int main(void)
 {
     static uint8_t text[MOST_TEXT];
+    size_t length = fread(text, 1, sizeof text, stdin);
 
-    for (int i = 1; i < argc; i++) {
-        size_t length = read_file(argv[i], text);
-        printf("%s\n", argv[i]);
-        print_saving("first come", yard_first_come_first_served, text, length);
-        print_saving("myopic", yard_myopic, text, length);
-    }
+    print_saving("first come", yard_first_come_first_served, text, length);
+    print_saving("myopic", yard_myopic, text, length);
     return 0;
 }

@@ -10,8 +10,10 @@ use Rattle.day.specs.Answer.{Answer, gives, refuses, refusal, onGiven, Check, m
 use Rattle.day.specs.declared.Limits.{Limits}
 use Rattle.valuing.specs.Valuing.{outcomeOf}
 use Rattle.planning.specs.Planning.{costWords, choiceWords, planned, begins, openWords}
-use Rattle.procedures.specs.Procedures.{leftOver}
+use Rattle.procedures.specs.Procedures.{leftOver, firstCome, myopic}
 use Rattle.baselines.specs.declared.Baseline.{Baseline}
+use Rattle.baselines.specs.declared.Procedure.{Procedure}
+use Rattle.baselines.specs.declared.Procedure.the-variants.{FirstCome, Myopic}
 use Rattle.baselines.specs.declared.Verdict.{Verdict}
 use Rattle.baselines.specs.declared.Verdict.the-variants.{Compared, Refused}
 
@@ -19,6 +21,11 @@ use Rattle.baselines.specs.declared.Verdict.the-variants.{Compared, Refu
 pub record Comparison : Type 0 where
   pub outcome : Outcome
   pub saving : ℤ
+
+-- the row of slots that a procedure gives
+abbrev pub rowBy : Procedure → Yard → List ℕ
+rowBy FirstCome y = firstCome y
+rowBy Myopic y = myopic y
 
 -- ---- the code's answer in the numbers of 01 and 02
 

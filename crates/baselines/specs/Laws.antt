@@ -1,29 +1,23 @@
--- How the calls come to their answers: a row that leaves a train over or not, the refusals of planning, and planning with a row of 12 bytes.
+-- How the calls come to their answers: a row that leaves a train over or not, what planning answers, and a row at the front of 12 bytes.
 -- Assumes nothing.
 use mathlib.Core.Path.{_≡_, refl, sym, ap, ap₂, _∙_, subst}
-use mathlib.Core.Bool.{Bool, true, false, cond, _&&_}
 use mathlib.Core.List.{List, [], _∷_, _++_}
-use mathlib.Core.Option.{Option, none, some}
 use Prim.Native.Nat.{ℕ, zero, suc, _+_, _≤_, _<_}
 use native.Mathlib.Numerals.{add-one}
 use native.Mathlib.Omega.{arith}
-use lib.Dec.{T, leb}
+use lib.Dec.{T}
 use lib.IntN.{ℤ, pos, _-ℤ_}
 use lib.ListN.{length, take, drop, replicate, length-append}
 use lib.Seq.{take-append-seam}
-use borrow.Author.Tests.{eq-eqb, ne-eqb, le-leb}
-use Rattle.fold.specs.Test.{of-true}
-use Rattle.model.specs.Model.{Yard, Outcome, outcome, cost, Best}
-use Rattle.model.specs.BestOf.{bestOf, is-best}
+use borrow.Author.Tests.{eq-eqb, ne-eqb}
+use Rattle.model.specs.Model.{Yard, Outcome, outcome, cost}
 use Rattle.day.specs.Answer.{Answer, gives, refuses}
-use Rattle.day.specs.AnswerLaws.{checked-gives}
 use Rattle.day.specs.Sound.{dayLimits, sound}
-use Rattle.day.specs.SoundLaws.{sound-is}
 use Rattle.day.specs.Most.{cost-most}
 use Rattle.day.specs.declared.Limits.{Limits}
 use Rattle.valuing.specs.Valuing.{outcomeOf}
 use Rattle.valuing.specs.declared.Value.{Value}
-use Rattle.planning.specs.Planning.{suffices, begins, bestAnswer, planChecks, planned}
+use Rattle.planning.specs.Planning.{planned}
 use Rattle.procedures.specs.Procedures.{leftOver}
 use Rattle.baselines.specs.Baselines.{Comparison, comparisonOf, answer, comparisonOrZero, against, compared}
 use Rattle.baselines.specs.declared.Baseline.{Baseline}
@@ -56,50 +50,6 @@ module _ (y : Yard) (row : List ℕ) (best : ℕ) {k : ℕ} (found : k ≡ leftO
 pub cost-fits : (y : Yard) (row : List ℕ) {o : Outcome} → T (sound dayLimits y) → o ≡ outcome y row → o .cost ≤ 2206694520
 unfolding cost
 cost-fits y row {o} s e = omega (arith, cost-most y row s, ap (λ (o : Outcome). o .cost) e)
-
--- ---- planning with a row of its own, of 12 bytes
-
-module _ (y : Yard) (costs choices : ℕ) where
-  room : sound dayLimits y ≡ true → leb (y .trains) 12 ≡ leb (y .trains) (y .trains)
-  room s = le-leb (y .trains) 12 (sound-is dayLimits y (of-true s) .trains .1) ∙ sym (le-leb (y .trains) (y .trains) (omega arith))
-
-  pub same-begins : begins dayLimits y costs choices 12 ≡ begins dayLimits y costs choices (y .trains)
-  same-begins = go (sound dayLimits y) room
-    where
-      go : (s : Bool) → (s ≡ true → leb (y .trains) 12 ≡ leb (y .trains) (y .trains)) → (s && suffices y costs choices 12) ≡ (s && suffices y costs choices (y .trains))
-      go false e = refl
-      go true e = rw (e refl)
-
-  pub same-planned : planned dayLimits y costs choices 12 ≡ planned dayLimits y costs choices (y .trains)
-  unfolding planned
-  same-planned = go (sound dayLimits y) room
-    where
-      go : (s : Bool) → (s ≡ true → leb (y .trains) 12 ≡ leb (y .trains) (y .trains))
-          → cond s (cond (suffices y costs choices 12) (bestAnswer y (bestOf y)) (refuses 10 (0 ∷ []))) (refuses 8 (0 ∷ []))
-          ≡ cond s (cond (suffices y costs choices (y .trains)) (bestAnswer y (bestOf y)) (refuses 10 (0 ∷ []))) (refuses 8 (0 ∷ []))
-      go false e = refl
-      go true e = rw (e refl)
-
--- ---- a plan is the best row of a sound day
-
-pub record FromBest (l : Limits) (y : Yard) (o : Outcome) : Type 0 where
-  pub isSound : T (sound l y)
-  pub row : List ℕ
-  pub best : Best y row
-  pub numbers : o ≡ outcome y row
-
-pub from-best : (l : Limits) (y : Yard) (costs choices bytes : ℕ) (o : Outcome) → planned l y costs choices bytes ≡ gives o → FromBest l y o
-unfolding planned
-from-best l y costs choices bytes o e =
-    let (h, b) = checked-gives (planChecks l y costs choices bytes) (bestAnswer y (bestOf y)) o e in
-    go (h .0) (bestOf y) refl b
-  where
-    gives-same : {a b : Outcome} → gives a ≡ gives b → a ≡ b
-    gives-same e = cc
-
-    go : T (sound l y) → (b : Option (List ℕ)) → bestOf y ≡ b → bestAnswer y b ≡ gives o → FromBest l y o
-    go s none q g = absurd (let z : _≡_ {A = ℕ} 0 1 = cc in omega arith)
-    go s (some row) q g = record { isSound = s; row = row; best = is-best y row q; numbers = sym (gives-same g) }
 
 -- ---- the answer, from planning's
 

@@ -12,7 +12,7 @@ ghost use Rattle.day.specs.Answer.{refusal};
 ghost use Rattle.day.specs.Sound.{dayLimits, yard, sound};
 ghost use Rattle.planning.specs.Planning.{answer as planAnswer, planned, Stays};
 ghost use Rattle.procedures.specs.Procedures.{firstCome, myopic};
-ghost use Rattle.baselines.specs.Baselines.{answer, comparisonOf, comparisonOrZero, against, compared, openCosts, openChoices};
+ghost use Rattle.baselines.specs.Baselines.{answer, comparisonOf, comparisonOrZero, rowBy, against, compared, openCosts, openChoices};
 ghost use Rattle.baselines.specs.Laws.{Says};
 use day::Day;
 use day::Refusal;
@@ -20,6 +20,12 @@ use planning::Planned;
 use valuing::Revisits;
 use valuing::Splits;
 use valuing::Value;
+
+// The procedures that planning is compared with.
+pub enum Procedure {
+    FirstCome,
+    Myopic,
+}
 
 pub enum Verdict {
     Compared,
@@ -112,30 +118,46 @@ fn plan_cost(day: Day, cost: &mut [u64], choice: &mut [u16]) -> Planned
     planning::plan(day, cost, choice, &mut row)
 }
 
-// First come, first served against the best plan: the trains in file order each take the earliest slot in their window with a track free.
-// `cost` needs 2^n words, `choice` T × 2^n words: else 10.
+fn compare_with(procedure: Procedure, day: Day, best: u64) -> Baseline
+    requires { ⌜ T (sound dayLimits (yard day)) × (best ≤ 2206694520) ⌝ }
+    ensures { λ r. ⌜ Says (against (yard day) (rowBy procedure (yard day)) best) r ⌝ }
+{
+    match procedure {
+        Procedure::FirstCome => compare_first_come(day, best),
+        Procedure::Myopic => compare_myopic(day, best),
+    }
+}
+
+// A procedure against the best plan. `cost` needs 2^n words, `choice` T × 2^n words: else 10.
+pub fn measure(procedure: Procedure, day: Day, cost: &mut [u64], choice: &mut [u16]) -> Baseline
+    ensures { λ r. ⌜ answer (r .verdict) (comparisonOf r) ≡ compared dayLimits (yard day) (rowBy procedure (yard day)) (length (now (cost .entry))) (length (now (choice .entry))) ⌝ }
+    ensures { λ r. ⌜ comparisonOf r ≡ comparisonOrZero (compared dayLimits (yard day) (rowBy procedure (yard day)) (length (now (cost .entry))) (length (now (choice .entry)))) ⌝ }
+    ensures { λ r. ⌜ Stays (openCosts dayLimits (yard day) (length (now (cost .entry))) (length (now (choice .entry)))) (now (cost .entry)) (now (cost .exit)) ⌝ }
+    ensures { λ r. ⌜ Stays (openChoices dayLimits (yard day) (length (now (cost .entry))) (length (now (choice .entry)))) (now (choice .entry)) (now (choice .exit)) ⌝ }
+{
+    match plan_cost(day, cost, choice) {
+        Planned::Plan(best) => compare_with(procedure, day, best.cost),
+        Planned::Refused(refusal) => refused(refusal),
+    }
+}
+
+// First come, first served: the trains in file order each take the earliest slot in their window with a track free.
 pub fn first_come_first_served(day: Day, cost: &mut [u64], choice: &mut [u16]) -> Baseline
     ensures { λ r. ⌜ answer (r .verdict) (comparisonOf r) ≡ compared dayLimits (yard day) (firstCome (yard day)) (length (now (cost .entry))) (length (now (choice .entry))) ⌝ }
     ensures { λ r. ⌜ comparisonOf r ≡ comparisonOrZero (compared dayLimits (yard day) (firstCome (yard day)) (length (now (cost .entry))) (length (now (choice .entry)))) ⌝ }
     ensures { λ r. ⌜ Stays (openCosts dayLimits (yard day) (length (now (cost .entry))) (length (now (choice .entry)))) (now (cost .entry)) (now (cost .exit)) ⌝ }
     ensures { λ r. ⌜ Stays (openChoices dayLimits (yard day) (length (now (cost .entry))) (length (now (choice .entry)))) (now (choice .entry)) (now (choice .exit)) ⌝ }
 {
-    match plan_cost(day, cost, choice) {
-        Planned::Plan(best) => compare_first_come(day, best.cost),
-        Planned::Refused(refusal) => refused(refusal),
-    }
+    measure(Procedure::FirstCome, day, cost, choice)
 }
 
-// The myopic start procedure (source 000, section 4.2) against the best plan: slot after slot and track after track the train that adds
-// least by (11), of those whose window holds the slot. The areas are as above.
+// The myopic start procedure (source 000, section 4.2): slot after slot and track after track the train that adds least by (11), of those
+// whose window holds the slot.
 pub fn myopic_start(day: Day, cost: &mut [u64], choice: &mut [u16]) -> Baseline
     ensures { λ r. ⌜ answer (r .verdict) (comparisonOf r) ≡ compared dayLimits (yard day) (myopic (yard day)) (length (now (cost .entry))) (length (now (choice .entry))) ⌝ }
     ensures { λ r. ⌜ comparisonOf r ≡ comparisonOrZero (compared dayLimits (yard day) (myopic (yard day)) (length (now (cost .entry))) (length (now (choice .entry)))) ⌝ }
     ensures { λ r. ⌜ Stays (openCosts dayLimits (yard day) (length (now (cost .entry))) (length (now (choice .entry)))) (now (cost .entry)) (now (cost .exit)) ⌝ }
     ensures { λ r. ⌜ Stays (openChoices dayLimits (yard day) (length (now (cost .entry))) (length (now (choice .entry)))) (now (choice .entry)) (now (choice .exit)) ⌝ }
 {
-    match plan_cost(day, cost, choice) {
-        Planned::Plan(best) => compare_myopic(day, best.cost),
-        Planned::Refused(refusal) => refused(refusal),
-    }
+    measure(Procedure::Myopic, day, cost, choice)
 }

@@ -48,6 +48,11 @@ carried (WithoutSlot position) = position ∷ []
 abbrev pub refusal : {X : Type 0} → Refusal → Answer X
 refusal r = refuses (number r) (carried r)
 
+-- the number of an answer, 0 where something is given
+abbrev pub code : {X : Type 0} → Answer X → ℕ
+code (gives x) = 0
+code (refuses k carries) = k
+
 -- the answer that follows from what is given; a refusal is handed on
 abbrev pub onGiven : {X Y : Type 0} → Answer X → (X → Answer Y) → Answer Y
 onGiven (gives x) f = f x

@@ -15,6 +15,9 @@ AllHold [] = Unit
 AllHold (must holds k carries ∷ checks) = T holds × AllHold checks
 
 module _ {X : Type 0} where
+  pub gives-same : {a b : X} → gives a ≡ gives b → a ≡ b
+  gives-same e = cc
+
   pub checked-holds : (checks : List Check) (a : Answer X) → AllHold checks → checked checks a ≡ a
   checked-holds [] a t = refl
   checked-holds (must holds k carries ∷ checks) a t =

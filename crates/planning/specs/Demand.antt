@@ -21,15 +21,12 @@ use Rattle.model.specs.Rows.{allowed-is}
 use Rattle.model.specs.BestOf.{bestOf, is-best, is-none}
 use Rattle.model.specs.Overbooked.{Interval, firstOverbooked, SaysFirst, first-says}
 use Rattle.day.specs.Answer.{Answer, gives, refuses}
-use Rattle.day.specs.AnswerLaws.{checked-holds}
+use Rattle.day.specs.AnswerLaws.{gives-same, checked-holds}
 use Rattle.day.specs.Sound.{sound}
 use Rattle.day.specs.SoundLaws.{sound-is}
 use Rattle.day.specs.declared.Limits.{Limits}
 use Rattle.feasibility.specs.Verdict.{SomeRow, none-row}
 use Rattle.planning.specs.Planning.{suffices, begins, bestAnswer, carriedBy, planChecks, planned, placed, rowAfter}
-
-gives-same : {a b : Outcome} → gives a ≡ gives b → a ≡ b
-gives-same e = cc
 
 module _ (l : Limits) (y : Yard) (costs choices : ℕ) (row : List ℕ) (begun : T (begins l y costs choices (length row)))
     (said : Answer Outcome) (after : List ℕ)

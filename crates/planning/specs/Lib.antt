@@ -1,3 +1,4 @@
 pub mod Planning
 pub mod Laws
 pub mod Demand
+pub mod Answers

@@ -13,10 +13,6 @@ use Rattle.valuing.specs.Valuing.{valued}
 use Rattle.dayfile.specs.Reading.{readDay}
 use Rattle.baselines.specs.Baselines.{Comparison, compared}
 
-abbrev pub code : {X : Type 0} → Answer X → ℕ
-code (gives x) = 0
-code (refuses k carries) = k
-
 -- ---- the answer to a text: the count of bytes, 0 with a refusal
 
 abbrev pub count : Answer ℕ → ℕ

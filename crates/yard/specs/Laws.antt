@@ -9,7 +9,7 @@ use lib.Dec.{leb}
 use lib.IntN.{ℤ, pos}
 use lib.ListN.{length, set, drop}
 use Rattle.model.specs.Model.{Yard, Outcome}
-use Rattle.day.specs.Answer.{Answer, gives, refuses, refusal, onGiven, number, carried}
+use Rattle.day.specs.Answer.{Answer, gives, refuses, refusal, code, onGiven, number, carried}
 use Rattle.refusals.specs.Numbers.{Tells}
 use Rattle.day.specs.declared.Limits.{Limits}
 use Rattle.refusals.specs.declared.Numbered.{Numbered}
@@ -18,7 +18,7 @@ use Rattle.valuing.specs.Valuing.{valued}
 use Rattle.dayfile.specs.Reading.{readDay}
 use Rattle.baselines.specs.Baselines.{Comparison, comparisonOf, answer, comparisonOrZero, compared}
 use Rattle.baselines.specs.declared.Baseline.{Baseline}
-use Rattle.yard.specs.Interface.{code, valueText, compareText, outcomes, three, numbersAfter}
+use Rattle.yard.specs.Interface.{valueText, compareText, outcomes, three, numbersAfter}
 
 -- three numbers stored at the front
 pub set-three : (l : List ℕ) (a b c : ℕ) → 3 ≤ length l → set (set (set l 0 a) 1 b) 2 c ≡ a ∷ b ∷ c ∷ drop 3 l

@@ -8,17 +8,18 @@ ghost use mathlib.Core.List.{[], _∷_, _++_};
 ghost use Prim.Native.Nat.{_≤_};
 ghost use lib.Dec.{leb};
 ghost use lib.ListN.{length, drop};
-ghost use Rattle.day.specs.Answer.{gives, refusal};
+ghost use Rattle.day.specs.Answer.{gives, refusal, code};
 ghost use Rattle.day.specs.Sound.{dayLimits, yard};
 ghost use Rattle.valuing.specs.Valuing.{outcomeOf, valued};
 ghost use Rattle.dayfile.specs.Reading.{readDay};
 ghost use Rattle.output.specs.Output.{writes, leaves};
 ghost use Rattle.answering.specs.Answering.{answerText};
 ghost use Rattle.procedures.specs.Procedures.{firstCome, myopic};
-ghost use Rattle.baselines.specs.Baselines.{answer, comparisonOf, comparisonOrZero, compared};
-ghost use Rattle.yard.specs.Interface.{code, count, line, valueText, compareText, outcomes, three, numbersAfter};
+ghost use Rattle.baselines.specs.Baselines.{answer, comparisonOf, comparisonOrZero, rowBy, compared};
+ghost use Rattle.yard.specs.Interface.{count, line, valueText, compareText, outcomes, three, numbersAfter};
 ghost use Rattle.yard.specs.Laws.{Told, ToldSaving};
 use baselines::Baseline;
+use baselines::Procedure;
 use baselines::Verdict;
 use day::Day;
 use day::Refusal;
@@ -154,24 +155,31 @@ fn tell_baseline(baseline: Baseline, numbers: &mut [u64], saving: &mut i64) -> u
 }
 
 // Compares a day that was read. The areas are local; they suffice for every sound day.
-fn compare_first_come(day: Day, numbers: &mut [u64], saving: &mut i64) -> u64
+fn compare_day(procedure: Procedure, day: Day, numbers: &mut [u64], saving: &mut i64) -> u64
     requires { ⌜ 3 ≤ length (now numbers) ⌝ }
-    ensures { λ r. ⌜ ToldSaving (now (numbers .entry)) (compared dayLimits (yard day) (firstCome (yard day)) 4096 32768) r (now (numbers .exit)) (now (saving .exit)) ⌝ }
+    ensures { λ r. ⌜ ToldSaving (now (numbers .entry)) (compared dayLimits (yard day) (rowBy procedure (yard day)) 4096 32768) r (now (numbers .exit)) (now (saving .exit)) ⌝ }
 {
     let mut cost = [0u64; 4096];
     let mut choice = [0u16; 32768];
-    let baseline = baselines::first_come_first_served(day, &mut cost, &mut choice);
+    let baseline = baselines::measure(procedure, day, &mut cost, &mut choice);
     tell_baseline(baseline, numbers, saving)
 }
 
-fn compare_myopic(day: Day, numbers: &mut [u64], saving: &mut i64) -> u64
-    requires { ⌜ 3 ≤ length (now numbers) ⌝ }
-    ensures { λ r. ⌜ ToldSaving (now (numbers .entry)) (compared dayLimits (yard day) (myopic (yard day)) 4096 32768) r (now (numbers .exit)) (now (saving .exit)) ⌝ }
+fn compare_text(procedure: Procedure, text: &[u8], numbers: &mut [u64], saving: &mut i64) -> u64
+    ensures { λ r. ⌜ r ≡ code (compareText (rowBy procedure) dayLimits (now (text .entry)) (length (now (numbers .entry)))) ⌝ }
+    ensures { λ _. ⌜ now (numbers .exit) ≡ numbersAfter (outcomes (compareText (rowBy procedure) dayLimits (now (text .entry)) (length (now (numbers .entry))))) (now (numbers .entry)) ⌝ }
+    ensures { λ _. ⌜ now (saving .exit) ≡ comparisonOrZero (compareText (rowBy procedure) dayLimits (now (text .entry)) (length (now (numbers .entry)))) .saving ⌝ }
 {
-    let mut cost = [0u64; 4096];
-    let mut choice = [0u16; 32768];
-    let baseline = baselines::myopic_start(day, &mut cost, &mut choice);
-    tell_baseline(baseline, numbers, saving)
+    *saving = 0;
+    if !is_room(numbers.len()) {
+        return 10;
+    }
+    let reading = dayread::read_day(text);
+    let outcome = reading.outcome;
+    match outcome {
+        Outcome::Accepted => compare_day(procedure, reading.day, numbers, saving),
+        Outcome::Refused(refusal) => tell(numbers, refusal),
+    }
 }
 
 // First come, first served on the day of a text, against the best plan: 0 with its revisits, split moves and cost in the first three
@@ -187,16 +195,7 @@ pub extern "C" fn yard_first_come_first_served(
     ensures { λ _. ⌜ now (numbers .exit) ≡ numbersAfter (outcomes (compareText firstCome dayLimits (now (text .entry)) (length (now (numbers .entry))))) (now (numbers .entry)) ⌝ }
     ensures { λ _. ⌜ now (saving .exit) ≡ comparisonOrZero (compareText firstCome dayLimits (now (text .entry)) (length (now (numbers .entry)))) .saving ⌝ }
 {
-    *saving = 0;
-    if !is_room(numbers.len()) {
-        return 10;
-    }
-    let reading = dayread::read_day(text);
-    let outcome = reading.outcome;
-    match outcome {
-        Outcome::Accepted => compare_first_come(reading.day, numbers, saving),
-        Outcome::Refused(refusal) => tell(numbers, refusal),
-    }
+    compare_text(Procedure::FirstCome, text, numbers, saving)
 }
 
 // The same of the myopic start procedure.
@@ -206,14 +205,5 @@ pub extern "C" fn yard_myopic(text: &[u8], numbers: &mut [u64], saving: &mut i64
     ensures { λ _. ⌜ now (numbers .exit) ≡ numbersAfter (outcomes (compareText myopic dayLimits (now (text .entry)) (length (now (numbers .entry))))) (now (numbers .entry)) ⌝ }
     ensures { λ _. ⌜ now (saving .exit) ≡ comparisonOrZero (compareText myopic dayLimits (now (text .entry)) (length (now (numbers .entry)))) .saving ⌝ }
 {
-    *saving = 0;
-    if !is_room(numbers.len()) {
-        return 10;
-    }
-    let reading = dayread::read_day(text);
-    let outcome = reading.outcome;
-    match outcome {
-        Outcome::Accepted => compare_myopic(reading.day, numbers, saving),
-        Outcome::Refused(refusal) => tell(numbers, refusal),
-    }
+    compare_text(Procedure::Myopic, text, numbers, saving)
 }

@@ -3,9 +3,9 @@
 use mathlib.Core.Path.{_∙_, subst}
 use lib.ListN.{length}
 use denote.Ref.{now}
-use Rattle.day.specs.Sound.{yard}
+use Rattle.day.specs.Sound.{dayLimits, yard}
 use Rattle.planning.specs.Planning.{costWords, choiceWords, openWords, Stays}
-use Rattle.baselines.specs.Laws.{same-begins, same-planned}
+use Rattle.planning.specs.Answers.{same-begins, same-planned}
 use borrow.Author.Needs.{needs}
 use Rattle.baselines.proofs.plan_cost.Statement.{statement}
 use Rattle.baselines.proofs.plan_cost.Tie as tie
@@ -28,10 +28,10 @@ returns c = let s = c .before .before .before .before .before .before .before .b
     let y = yard (s .args .day) in
     let k = length (now (s .args .cost)) in
     let m = length (now (s .args .choice)) in (
-      p .plan .ensures .0 ∙ same-planned y k m,
+      p .plan .ensures .0 ∙ same-planned dayLimits y k m,
       (
-        subst (λ b. Stays (openWords b (costWords y)) (now (s .args .cost)) (p .plan .last .1 .0)) (same-begins y k m) (p .plan .ensures .1 .1 .0),
-        subst (λ b. Stays (openWords b (choiceWords y)) (now (s .args .choice)) (p .plan .last .1 .1 .0)) (same-begins y k m) (p .plan .ensures .1 .1 .1),
+        subst (λ b. Stays (openWords b (costWords y)) (now (s .args .cost)) (p .plan .last .1 .0)) (same-begins dayLimits y k m) (p .plan .ensures .1 .1 .0),
+        subst (λ b. Stays (openWords b (choiceWords y)) (now (s .args .choice)) (p .plan .last .1 .1 .0)) (same-begins dayLimits y k m) (p .plan .ensures .1 .1 .1),
       ),
     )
 

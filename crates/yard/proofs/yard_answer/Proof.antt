@@ -2,7 +2,8 @@
 -- Assumes nothing.
 use mathlib.Core.Path.{sym, ap, _∙_}
 use Rattle.output.specs.Output.{answer}
-use Rattle.yard.specs.Interface.{code, count}
+use Rattle.day.specs.Answer.{code}
+use Rattle.yard.specs.Interface.{count}
 use borrow.Author.Needs.{needs}
 use Rattle.yard.proofs.yard_answer.Statement.{statement}
 use Rattle.yard.proofs.yard_answer.Tie as tie

@@ -3,7 +3,8 @@
 use mathlib.Core.Path.{sym, ap, _∙_}
 use Rattle.day.specs.Sound.{yard}
 use Rattle.dayread.specs.Whole.{answer}
-use Rattle.yard.specs.Interface.{code, line}
+use Rattle.day.specs.Answer.{code}
+use Rattle.yard.specs.Interface.{line}
 use borrow.Author.Needs.{needs}
 use Rattle.yard.proofs.yard_check.Statement.{statement}
 use Rattle.yard.proofs.yard_check.Tie as tie

@@ -1,15 +1,16 @@
--- `baselines::myopic_start` meets its contract: planning's refusal, or the myopic procedure against the planned cost.
+-- `baselines::measure` meets its contract: planning's refusal, or the procedure's row against the planned cost.
 -- Assumes nothing.
 use mathlib.Core.Path.{sym, ap, _∙_}
 use lib.ListN.{length}
 use denote.Ref.{now}
 use Rattle.day.specs.Sound.{dayLimits, yard}
 use Rattle.planning.specs.Planning.{answer as planAnswer}
-use Rattle.procedures.specs.Procedures.{myopic}
-use Rattle.baselines.specs.Laws.{from-best, cost-fits, says-against, says-refused}
+use Rattle.planning.specs.Answers.{from-best}
+use Rattle.baselines.specs.Baselines.{rowBy}
+use Rattle.baselines.specs.Laws.{cost-fits, says-against, says-refused}
 use borrow.Author.Needs.{needs}
-use Rattle.baselines.proofs.myopic_start.Statement.{statement}
-use Rattle.baselines.proofs.myopic_start.Tie as tie
+use Rattle.baselines.proofs.measure.Statement.{statement}
+use Rattle.baselines.proofs.measure.Tie as tie
 
 plan-cost-requires : tie.Need-plan-cost-requires
 plan-cost-requires c κs = search needs
@@ -17,8 +18,8 @@ plan-cost-requires c κs = search needs
 enum-known-best : tie.Need-enum-known-best
 enum-known-best c = search needs
 
-compare-myopic-requires : tie.Need-compare-myopic-requires
-compare-myopic-requires c κs = let s = c .before .before .before .before .before .before .before .before .before .before .before .before in
+compare-with-requires : tie.Need-compare-with-requires
+compare-with-requires c κs = let s = c .before .before .before .before .before .before .before .before .before .before .before .before in
     let p = c .before .before .before .before .before .before .before .plan-cost .ensures in
     let y = yard (s .args .day) in
     let costs = length (now (s .args .cost)) in
@@ -46,7 +47,7 @@ returns c = let s = c .before .before .before .before .before .before .before .b
     let costs = length (now (s .args .cost)) in
     let choices = length (now (s .args .choice)) in
     let e = sym (p .0) ∙ ap planAnswer (c .before .before .best .given .1) in
-    let a = says-against dayLimits y (myopic y) costs choices e (c .compare-myopic .ensures) in
+    let a = says-against dayLimits y (rowBy (s .args .procedure) y) costs choices e (c .compare-with .ensures) in
     (a .says, (a .beside, p .1))
 
 same-length-3 : tie.Need-same-length-3
@@ -62,16 +63,16 @@ returns-2 c = let s = c .before .before .before .before .before .before .before 
     let costs = length (now (s .args .cost)) in
     let choices = length (now (s .args .choice)) in
     let e = sym (p .0) ∙ ap planAnswer (c .before .before .refusal .given .1) in
-    let a = says-refused dayLimits y (myopic y) costs choices e (c .refused .ensures) in
+    let a = says-refused dayLimits y (rowBy (s .args .procedure) y) costs choices e (c .refused .ensures) in
     (a .says, (a .beside, p .1))
 
-pub myopic-start-spec : {M : Type 1} → statement M
-myopic-start-spec =
+pub measure-spec : {M : Type 1} → statement M
+measure-spec =
     tie.close
     (tie.spec
     plan-cost-requires
     enum-known-best
-    compare-myopic-requires
+    compare-with-requires
     enum-known-refusal
     refused-requires
     same-length

@@ -1,4 +1,4 @@
--- `yard::yard_first_come_first_served` meets its contract. The room, then the two cases of reading.
+-- `yard::compare_text` meets its contract. The room, then the two cases of reading.
 -- Assumes nothing.
 use mathlib.Core.Path.{sym, ap, _∙_}
 use lib.Dec.{leb→le}
@@ -8,18 +8,17 @@ use Rattle.fold.specs.Test.{of-true}
 use Rattle.day.specs.Answer.{onGiven}
 use Rattle.day.specs.Sound.{dayLimits, yard}
 use Rattle.dayread.specs.Whole.{answer}
-use Rattle.procedures.specs.Procedures.{firstCome}
-use Rattle.baselines.specs.Baselines.{compared}
+use Rattle.baselines.specs.Baselines.{rowBy, compared}
 use Rattle.yard.specs.Laws.{no-room-saving, told-refused, told-saving}
 use borrow.Author.Needs.{needs}
-use Rattle.yard.proofs.yard_first_come_first_served.Statement.{statement}
-use Rattle.yard.proofs.yard_first_come_first_served.Tie as tie
+use Rattle.yard.proofs.compare_text.Statement.{statement}
+use Rattle.yard.proofs.compare_text.Tie as tie
 
 is-room-requires : tie.Need-is-room-requires
 is-room-requires c κs = search needs
 
 returns : tie.Need-returns
-returns c = no-room-saving dayLimits (now (c .before .before .before .before .args .text)) (now (c .before .before .before .before .args .numbers)) firstCome (sym (c .before .is-room .ensures) ∙ not-true (c .before .is-room .result) (c .if1 .taken))
+returns c = let s = c .before .before .before .before in no-room-saving dayLimits (now (s .args .text)) (now (s .args .numbers)) (rowBy (s .args .procedure)) (sym (c .before .is-room .ensures) ∙ not-true (c .before .is-room .result) (c .if1 .taken))
 
 read-day-requires : tie.Need-read-day-requires
 read-day-requires c κs = search needs
@@ -27,8 +26,8 @@ read-day-requires c κs = search needs
 enum-told : tie.Need-enum-told
 enum-told c = search needs
 
-compare-first-come-requires : tie.Need-compare-first-come-requires
-compare-first-come-requires c κs = leb→le 3 _ (of-true (sym (c .before .before .before .before .before .before .is-room .ensures) ∙ not-false (c .before .before .before .before .before .before .is-room .result) (c .before .before .before .before .before .if1 .left)))
+compare-day-requires : tie.Need-compare-day-requires
+compare-day-requires c κs = leb→le 3 _ (of-true (sym (c .before .before .before .before .before .before .is-room .ensures) ∙ not-false (c .before .before .before .before .before .before .is-room .result) (c .before .before .before .before .before .if1 .left)))
 
 enum-known-outcome : tie.Need-enum-known-outcome
 enum-known-outcome c = search needs
@@ -42,9 +41,10 @@ same-length c = search needs
 returns-2 : tie.Need-returns-2
 returns-2 c = let s = c .before .before .before .before .before .before .before .before .before .before .before .before in
     let d = c .before .before .before .before .before .before .before in
+    let row = rowBy (s .args .procedure) in
     let e = sym (ap (λ o. answer o (yard (d .read-day .result .day))) (c .before .before .before .before .before .enum-told .given .1)) ∙ d .read-day .ensures .0 in
-    let f = sym (ap (λ r. onGiven r λ y. compared dayLimits y (firstCome y) 4096 32768) e) in
-    told-saving dayLimits (now (s .args .text)) (now (s .args .numbers)) firstCome (sym (c .before .before .before .before .before .before .before .before .before .is-room .ensures) ∙ not-false (c .before .before .before .before .before .before .before .before .before .is-room .result) (c .before .before .before .before .before .before .before .before .if1 .left)) f (c .before .before .compare-first-come .ensures)
+    let f = sym (ap (λ r. onGiven r λ y. compared dayLimits y (row y) 4096 32768) e) in
+    told-saving dayLimits (now (s .args .text)) (now (s .args .numbers)) row (sym (c .before .before .before .before .before .before .before .before .before .is-room .ensures) ∙ not-false (c .before .before .before .before .before .before .before .before .before .is-room .result) (c .before .before .before .before .before .before .before .before .if1 .left)) f (c .before .before .compare-day .ensures)
 
 same-length-2 : tie.Need-same-length-2
 same-length-2 c = search needs
@@ -52,19 +52,20 @@ same-length-2 c = search needs
 returns-3 : tie.Need-returns-3
 returns-3 c = let s = c .before .before .before .before .before .before .before .before .before .before .before .before in
     let d = c .before .before .before .before .before .before .before in
+    let row = rowBy (s .args .procedure) in
     let e = sym (ap (λ o. answer o (yard (d .read-day .result .day))) (c .before .before .before .before .before .outcome .given .1)) ∙ d .read-day .ensures .0 in
-    let f = sym (ap (λ r. onGiven r λ y. compared dayLimits y (firstCome y) 4096 32768) e) in
-    told-saving dayLimits (now (s .args .text)) (now (s .args .numbers)) firstCome (sym (c .before .before .before .before .before .before .before .before .before .is-room .ensures) ∙ not-false (c .before .before .before .before .before .before .before .before .before .is-room .result) (c .before .before .before .before .before .before .before .before .if1 .left)) f (told-refused (c .before .before .before .before .before .outcome .given .0 .0) (c .before .before .tell .ensures))
+    let f = sym (ap (λ r. onGiven r λ y. compared dayLimits y (row y) 4096 32768) e) in
+    told-saving dayLimits (now (s .args .text)) (now (s .args .numbers)) row (sym (c .before .before .before .before .before .before .before .before .before .is-room .ensures) ∙ not-false (c .before .before .before .before .before .before .before .before .before .is-room .result) (c .before .before .before .before .before .before .before .before .if1 .left)) f (told-refused (c .before .before .before .before .before .outcome .given .0 .0) (c .before .before .tell .ensures))
 
-pub yard-first-come-first-served-spec : {M : Type 1} → statement M
-yard-first-come-first-served-spec =
+pub compare-text-spec : {M : Type 1} → statement M
+compare-text-spec =
     tie.close
     (tie.spec
     is-room-requires
     returns
     read-day-requires
     enum-told
-    compare-first-come-requires
+    compare-day-requires
     enum-known-outcome
     tell-requires
     same-length
