@@ -2,3 +2,4 @@ pub mod Procedures
 pub mod Underway
 pub mod Complete
 pub mod Laws
+pub mod Selected
