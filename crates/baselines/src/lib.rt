@@ -7,7 +7,7 @@
 ghost use mathlib.Core.Path.{_≡_};
 ghost use Prim.Native.Nat.{_≤_};
 ghost use lib.Dec.{T};
-ghost use lib.ListN.{length};
+ghost use lib.ListN.{length, replicate};
 ghost use Rattle.day.specs.Answer.{refusal};
 ghost use Rattle.day.specs.Sound.{dayLimits, yard, sound};
 ghost use Rattle.planning.specs.Planning.{answer as planAnswer, planned, Stays};
@@ -72,42 +72,6 @@ fn compare(day: Day, row: &[u8], best: u64) -> Baseline
     }
 }
 
-fn compare_first_come(day: Day, best: u64) -> Baseline
-    requires { ⌜ T (sound dayLimits (yard day)) × (best ≤ 2206694520) ⌝ }
-    ensures { λ r. ⌜ Says (against (yard day) (firstCome (yard day)) best) r ⌝ }
-{
-    let first = day.first;
-    let last = day.last;
-    let n = day.trains;
-    let mut row = [0u8; 12];
-    procedures::come_first(&first, &last, n, day.tracks, day.slots, &mut row[..n]);
-    compare(day, &row[..n], best)
-}
-
-fn compare_myopic(day: Day, best: u64) -> Baseline
-    requires { ⌜ T (sound dayLimits (yard day)) × (best ≤ 2206694520) ⌝ }
-    ensures { λ r. ⌜ Says (against (yard day) (myopic (yard day)) best) r ⌝ }
-{
-    let boxes = day.boxes;
-    let first = day.first;
-    let last = day.last;
-    let n = day.trains;
-    let mut row = [0u8; 12];
-    procedures::serve_myopic(
-        &boxes,
-        12,
-        &first,
-        &last,
-        &mut row[..n],
-        n,
-        day.tracks,
-        day.slots,
-        day.revisit,
-        day.split,
-    );
-    compare(day, &row[..n], best)
-}
-
 // Plans a day for its cost alone: the row is local, and long enough for every sound day.
 fn plan_cost(day: Day, cost: &mut [u64], choice: &mut [u16]) -> Planned
     ensures { λ r. ⌜ planAnswer r ≡ planned dayLimits (yard day) (length (now (cost .entry))) (length (now (choice .entry))) (day .trains) ⌝ }
@@ -118,14 +82,44 @@ fn plan_cost(day: Day, cost: &mut [u64], choice: &mut [u16]) -> Planned
     planning::plan(day, cost, choice, &mut row)
 }
 
+// Fills a row of n zeros by a procedure.
+fn fill_row(procedure: Procedure, day: Day, row: &mut [u8])
+    requires { ⌜ T (sound dayLimits (yard day)) × (now row ≡ replicate (day .trains) 0) ⌝ }
+    ensures { λ _. ⌜ now (row .exit) ≡ rowBy procedure (yard day) ⌝ }
+{
+    let boxes = day.boxes;
+    let first = day.first;
+    let last = day.last;
+    let n = day.trains;
+    match procedure {
+        Procedure::FirstCome => {
+            procedures::come_first(&first, &last, n, day.tracks, day.slots, row);
+        }
+        Procedure::Myopic => {
+            procedures::serve_myopic(
+                &boxes,
+                12,
+                &first,
+                &last,
+                row,
+                n,
+                day.tracks,
+                day.slots,
+                day.revisit,
+                day.split,
+            );
+        }
+    }
+}
+
 fn compare_with(procedure: Procedure, day: Day, best: u64) -> Baseline
     requires { ⌜ T (sound dayLimits (yard day)) × (best ≤ 2206694520) ⌝ }
     ensures { λ r. ⌜ Says (against (yard day) (rowBy procedure (yard day)) best) r ⌝ }
 {
-    match procedure {
-        Procedure::FirstCome => compare_first_come(day, best),
-        Procedure::Myopic => compare_myopic(day, best),
-    }
+    let n = day.trains;
+    let mut row = [0u8; 12];
+    fill_row(procedure, day, &mut row[..n]);
+    compare(day, &row[..n], best)
 }
 
 // A procedure against the best plan. `cost` needs 2^n words, `choice` T × 2^n words: else 10.

@@ -1,40 +1,61 @@
--- `baselines::compare_with` meets its contract. By the two procedures.
+-- `baselines::compare_with` meets its contract: the front of the local row is the procedure's.
 -- Assumes nothing.
-use mathlib.Core.Path.{sym, subst}
-use Rattle.day.specs.Sound.{yard}
-use Rattle.baselines.specs.Baselines.{rowBy, against}
-use Rattle.baselines.specs.Laws.{Says}
-use borrow.Author.Needs.{needs}
+use mathlib.Core.Path.{_≡_, sym, _∙_, subst}
+use Prim.Native.Nat.{_≤_}
+use native.Mathlib.Omega.{arith}
+use lib.ListN.{length}
+use lib.Seq.{length-take-le}
+use Rattle.day.specs.Sound.{dayLimits, yard}
+use Rattle.day.specs.SoundLaws.{sound-is}
+use Rattle.baselines.specs.Baselines.{against}
+use Rattle.baselines.specs.Laws.{Says, zeros, zeros-front, front-is, front-long, front-fits}
 use Rattle.baselines.proofs.compare_with.Statement.{statement}
 use Rattle.baselines.proofs.compare_with.Tie as tie
 
-enum-told : tie.Need-enum-told
-enum-told c = search needs
+few : (s : tie.Start) → s .args .day .trains ≤ 12
+few s = sound-is dayLimits (yard (s .args .day)) (s .pre .0) .trains .1
 
-compare-first-come-requires : tie.Need-compare-first-come-requires
-compare-first-come-requires c κs = search needs
+array-borrow-prefix-row : tie.Need-array-borrow-prefix-row
+array-borrow-prefix-row c = few c
 
-enum-told-2 : tie.Need-enum-told-2
-enum-told-2 c = search needs
+slice-aggregate-fill-row : tie.Need-slice-aggregate-fill-row
+slice-aggregate-fill-row c = sym (length-take-le _ _ (few (c .before)))
 
-compare-myopic-requires : tie.Need-compare-myopic-requires
-compare-myopic-requires c κs = search needs
+fill-row-requires : tie.Need-fill-row-requires
+fill-row-requires c κs = let s = c .before in (s .pre .0, zeros-front (s .args .day .trains) (few s))
+
+array-share-prefix-row : tie.Need-array-share-prefix-row
+array-share-prefix-row c = let s = c .before .before .before in
+    let row = c .before .fill-row .last .1 .1 .0 in
+    let long : length row ≡ s .args .day .trains = c .before .fill-row .kept .1 .1 .0 ∙ length-take-le (s .args .day .trains) zeros (few s) in
+    front-fits (s .args .day .trains) row long
+
+slice-aggregate-compare : tie.Need-slice-aggregate-compare
+slice-aggregate-compare c = let s = c .before .before .before .before in
+    let row = c .before .before .fill-row .last .1 .1 .0 in
+    let long : length row ≡ s .args .day .trains = c .before .before .fill-row .kept .1 .1 .0 ∙ length-take-le (s .args .day .trains) zeros (few s) in
+    front-long (s .args .day .trains) row long
+
+compare-requires : tie.Need-compare-requires
+compare-requires c κs = let s = c .before .before .before .before in
+    let row = c .before .before .fill-row .last .1 .1 .0 in
+    let long : length row ≡ s .args .day .trains = c .before .before .fill-row .kept .1 .1 .0 ∙ length-take-le (s .args .day .trains) zeros (few s) in
+    (s .pre .0, omega (arith, front-long (s .args .day .trains) row long), s .pre .1)
 
 returns : tie.Need-returns
-returns c = let s = c .before .before .before in
-    subst (λ p. Says (against (yard (s .args .day)) (rowBy p (yard (s .args .day))) (s .args .best)) (c .compare-first-come .result)) (sym (c .before .enum-told .given .1)) (c .compare-first-come .ensures)
-
-returns-2 : tie.Need-returns-2
-returns-2 c = let s = c .before .before .before in
-    subst (λ p. Says (against (yard (s .args .day)) (rowBy p (yard (s .args .day))) (s .args .best)) (c .compare-myopic .result)) (sym (c .before .enum-told2 .given .1)) (c .compare-myopic .ensures)
+returns c = let s = c .before .before .before .before .before in
+    let row = c .before .before .before .fill-row .last .1 .1 .0 in
+    let long : length row ≡ s .args .day .trains = c .before .before .before .fill-row .kept .1 .1 .0 ∙ length-take-le (s .args .day .trains) zeros (few s) in
+    subst (λ r. Says (against (yard (s .args .day)) r (s .args .best)) (c .compare .result)) (front-is (s .args .day .trains) row long ∙ c .before .before .before .fill-row .ensures) (c .compare .ensures)
 
 pub compare-with-spec : {M : Type 1} → statement M
 compare-with-spec =
     tie.close
     (tie.spec
-    enum-told
-    compare-first-come-requires
-    enum-told-2
-    compare-myopic-requires
-    returns
-    returns-2)
+    array-borrow-prefix-row
+    slice-aggregate-fill-row
+    fill-row-requires
+    array-share-prefix-row
+    slice-aggregate-compare
+    compare-requires
+    returns)
