@@ -1,24 +1,17 @@
 -- The train that `select` names is the argmin of (11): of the waiting trains whose window holds the slot it has the least priority, and of
 -- those with the same priority the lowest position (`select-argmin`). Where none may be chosen it is n.
 -- Assumes nothing.
-use mathlib.Core.Path.{_≡_, refl, sym, _∙_, subst}
+use mathlib.Core.Path.{_≡_, refl, sym, subst}
 use mathlib.Core.Bool.{Bool, true, false, cond, _&&_, _||_}
 use mathlib.Core.List.{List}
 use mathlib.Core.Logic.{⊎-elim, _⊎_, inl, inr}
 use Prim.Native.Nat.{ℕ, zero, suc, _≤_, _<_}
 use native.Mathlib.Nat.{le-refl, eq-or-lt-of-le, le-of-suc-le-suc}
 use native.Mathlib.Omega.{arith}
-use lib.Dec.{T, leb, ltb, ltb→lt}
-use borrow.Author.Tests.{le-leb, lt-leb, lt-ltb}
-use Rattle.fold.specs.Test.{of-true, of-false, clash, left}
-use Rattle.fold.specs.Counting.{le-or-lt}
+use lib.Dec.{T, leb, ltb, leb→le, ltb→lt}
+use borrow.Author.Tests.{le-leb, ltb-false}
+use Rattle.fold.specs.Test.{of-true, of-false, clash, either-of, neither}
 use Rattle.procedures.specs.Procedures.{inTime, waits, priority, select}
-
-or-false : {b c : Bool} → b ≡ false → (b || c) ≡ c
-or-false {b} {c} e = rw e
-
-not-lt : (x y : ℕ) → ltb x y ≡ false → y ≤ x
-not-lt x y e = ⊎-elim (λ (h : y ≤ x). h) (λ (h : x < y). absurd (clash (lt-ltb x y h) e)) (le-or-lt y x)
 
 module _ (n revisit split : ℕ) (a : ℕ → ℕ → ℕ) (first last row : List ℕ) (t : ℕ) where
   -- a train that waits and whose window holds the slot
@@ -77,11 +70,10 @@ module _ (n revisit split : ℕ) (a : ℕ → ℕ → ℕ) (first last row : Lis
         go false e c f m = pass (of-false e) i m
         go true e true f (inl (none, nothing)) = inr (take (of-true e) (λ j l q. absurd (nothing j l q)))
         go true e true f (inr m) =
-            let cheaper : key k < key i = ltb→lt (key k) (key i) (of-true (sym (or-false (lt-leb n i (omega (arith, m .below)))) ∙ f)) in
+            let cheaper : key k < key i = ⊎-elim (λ none. absurd (omega (arith, leb→le n i none, m .below))) (λ less. ltb→lt (key k) (key i) less) (either-of (leb n i) (ltb (key k) (key i)) (of-true f)) in
             inr (take (of-true e) (λ j l q. omega (arith, m .least j l q)))
-        go true e false f (inl (none, nothing)) = absurd (of-false f (left (leb n i) (ltb (key k) (key i)) (of-true (le-leb n i (omega arith)))))
-        go true e false f (inr m) =
-            inr (keep i m (not-lt (key k) (key i) (sym (or-false (lt-leb n i (omega (arith, m .below)))) ∙ f)))
+        go true e false f (inl (none, nothing)) = absurd (clash (le-leb n i (omega arith)) (neither (leb n i) (ltb (key k) (key i)) f .0))
+        go true e false f (inr m) = inr (keep i m (ltb-false (key k) (key i) (neither (leb n i) (ltb (key k) (key i)) f .1)))
 
   among : (k : ℕ) → k ≤ n → Among k (select n revisit split a first last row t k)
   unfolding select
