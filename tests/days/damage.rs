@@ -7,6 +7,7 @@ use crate::draft::{
 };
 use crate::draw::{draw_day, Random, DAMAGED_MOST, USUAL_MOST};
 use crate::model::{MOST_BOXES, MOST_TRAIN_NUMBER};
+use crate::special::last_move;
 
 /// A row too many in the first section, after the trains or at the end, or a
 /// names line there.
@@ -15,8 +16,10 @@ fn extra_row(random: &mut Random, draft: &mut Draft) {
     let line = random.pick(&[2, after_trains, draft.lines.len()]);
     let names: &[u8] = random.pick(&[HEAD_NAMES, TRAIN_NAMES, MOVE_NAMES]).as_bytes();
     let head = draft.lines.get(1).cloned().unwrap_or_default();
-    let row: &[u8] = random.pick(&[b"255 1 1", b"1 2 3", b"255 254 255", b"7", names, &head]);
-    draft.insert_line(line, row);
+    let train = format!("{MOST_TRAIN_NUMBER} 1 1");
+    let again = last_move();
+    let rows = [train.as_bytes(), b"1 2 3", again.trim_end().as_bytes(), b"7", names, &head];
+    draft.insert_line(line, random.pick(&rows));
 }
 
 /// The train count says one more or one fewer than there are rows.
@@ -114,7 +117,7 @@ fn train_broken_twice(random: &mut Random, draft: &mut Draft) {
     let slots = draft.day.slots;
     if let Some(line) = pick_any(random, lines.get(1..).unwrap_or(&[])) {
         let before = draft.day.trains[line - 4].number;
-        draft.set_field(line, 0, random.pick(&[before, before, 0, 256]));
+        draft.set_field(line, 0, random.pick(&[before, before, 0, MOST_TRAIN_NUMBER + 1]));
         draft.set_field(line, 1, random.pick(&[slots, slots, slots, slots + 1]));
         draft.set_field(line, 2, random.pick(&[1, 1, 1, 0]));
     }
@@ -128,7 +131,7 @@ fn move_broken_twice(random: &mut Random, draft: &mut Draft) {
         let lowest = draft.day.trains[0].number;
         draft.set_field(line, 0, lowest);
         draft.set_field(line, 1, random.pick(&[lowest, lowest, 1, 0]));
-        draft.set_field(line, 2, random.pick(&[1, 1, 0, 256]));
+        draft.set_field(line, 2, random.pick(&[1, 1, 0, MOST_BOXES + 1]));
     }
 }
 

@@ -6,7 +6,9 @@ use crate::draw::{draw_day, draw_sound, Random, DAMAGED_MOST};
 use crate::groups::{Tests, MOST_DIFFERENCES};
 use crate::plan::broken;
 use crate::process::{compare_file, escaped, Feed};
-use crate::special::{greatest_day, line_end_texts, long_texts, padded, special_texts, tiny_texts};
+use crate::special::{
+    greatest_day, last_move, line_end_texts, long_texts, padded, special_texts, tiny_texts,
+};
 use std::fs;
 
 const SOUND_DAYS: usize = 2500;
@@ -64,7 +66,7 @@ fn pieces_group(tests: &mut Tests) {
         let mut random = Random(seed);
         let text = match index % 6 {
             0 => write_day(&greatest_day()),
-            1 => padded(&write_day(&greatest_day()), b"255 254 255\n", 6000),
+            1 => padded(&write_day(&greatest_day()), last_move().as_bytes(), 6000),
             2 => draw_damaged(&mut random).1,
             _ => write_day(&draw_day(&mut random, DAMAGED_MOST)),
         };

@@ -17,6 +17,9 @@ pub const MOST_BYTES_READ: usize = 4096;
 /// The greatest accepted file, by 01.
 pub const MOST_BYTES_ACCEPTED: usize = 1765;
 
+/// The greatest plan file.
+pub const MOST_BYTES_PRINTED: usize = 124;
+
 #[derive(Clone, Debug, PartialEq)]
 pub struct Train {
     pub number: usize,

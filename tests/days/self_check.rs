@@ -6,11 +6,12 @@ use crate::known::{
     day_text, Known, EDGES, KNOWN_DAYS, KNOWN_VALUES, P1_MOVES, P1_TRAINS, SMALL_INPUTS, TEXTS,
 };
 use crate::model::{
-    precedes, value, within_tracks, within_windows, Value, MOST_BYTES_ACCEPTED, MOST_BYTES_READ,
+    precedes, value, within_tracks, within_windows, Value, MOST_BYTES_ACCEPTED, MOST_BYTES_PRINTED,
+    MOST_BYTES_READ,
 };
 use crate::plan::{answer, expected, Answer};
 use crate::self_baselines::check_baselines;
-use crate::special::{greatest_day, padded};
+use crate::special::{dearest_day, greatest_day, last_move, padded};
 
 /// 01's two files of case P1, as it prints them.
 const P1_FILE: &str = "trains tracks slots revisit split
@@ -84,7 +85,7 @@ fn check_printing(tests: &mut Tests) {
     tests.check(overbooked == wanted, "refusal 9 is printed otherwise");
 }
 
-/// 12 trains pass and 13 don't; the greatest file has the length that 01 says.
+/// 12 trains pass and 13 don't; the greatest files have their lengths.
 fn check_sizes(tests: &mut Tests) {
     for (count, known) in [(12, Known::Best(&[1; 12], [0; 3])), (13, Known::Refused(3, 2))] {
         let trains: Vec<String> = (1..=count).map(|number| format!("{number} 1 1")).collect();
@@ -95,9 +96,11 @@ fn check_sizes(tests: &mut Tests) {
     let greatest = write_day(&greatest_day());
     tests.check(greatest.len() == MOST_BYTES_ACCEPTED, "the greatest day has another length");
     tests.check(read_day(&greatest) == Ok(greatest_day()), "the greatest day reads otherwise");
+    let plan = expected(&write_day(&dearest_day()));
+    tests.check(plan.len() == MOST_BYTES_PRINTED, "the greatest plan file has another length");
     let unended = &greatest[..greatest.len() - 1];
     tests.check_text("no byte 10 at the end", unended, &Known::Refused(2, 148));
-    let longer = padded(&greatest, b"255 254 255\n", 2 * MOST_BYTES_READ);
+    let longer = padded(&greatest, last_move().as_bytes(), 2 * MOST_BYTES_READ);
     tests.check_text("a 133rd move", &longer, &Known::Refused(7, 149));
 }
 

@@ -4,17 +4,20 @@ use crate::day_file::{read_day, write_day, HEAD_NAMES};
 use crate::draft::{greatest_values, Draft};
 use crate::draw::Random;
 use crate::known::KNOWN_DAYS;
-use crate::model::{Day, Train, MOST_BOXES, MOST_SLOTS, MOST_TRACKS, MOST_TRAINS, MOST_WEIGHT};
+use crate::model::{
+    Day, Train, MOST_BOXES, MOST_SLOTS, MOST_TRACKS, MOST_TRAINS, MOST_TRAIN_NUMBER, MOST_WEIGHT,
+};
 
-/// The greatest file that 01 accepts: 12 trains of three digits, all pairs,
-/// with windows narrow enough to try all assignments.
+/// The greatest file that is accepted: 12 trains of the greatest numbers, all
+/// pairs, with windows narrow enough to try all assignments.
 pub fn greatest_day() -> Day {
     let mut boxes = [[MOST_BOXES; MOST_TRAINS]; MOST_TRAINS];
     for (position, row) in boxes.iter_mut().enumerate() {
         row[position] = 0;
     }
     let window = |k: usize| (1 + k % 7, 2 + k % 7);
-    let train = |k| Train { number: 244 + k, first: window(k).0, last: window(k).1 };
+    let number = |k: usize| MOST_TRAIN_NUMBER + 1 - MOST_TRAINS + k;
+    let train = |k| Train { number: number(k), first: window(k).0, last: window(k).1 };
     Day {
         tracks: MOST_TRACKS,
         slots: MOST_SLOTS,
@@ -25,9 +28,14 @@ pub fn greatest_day() -> Day {
     }
 }
 
+/// The last row of the greatest day; a second time it is a move too many.
+pub fn last_move() -> String {
+    format!("{MOST_TRAIN_NUMBER} {} {MOST_BOXES}\n", MOST_TRAIN_NUMBER - 1)
+}
+
 /// As dear as a day can be: all pairs of trains in different slots as far as
 /// there are slots, and each train but the last slot's has to come back.
-fn dearest_day() -> Day {
+pub fn dearest_day() -> Day {
     let mut day = greatest_day();
     for (position, train) in day.trains.iter_mut().enumerate() {
         let slot = 1 + position % MOST_SLOTS;
@@ -115,7 +123,8 @@ fn limit_texts() -> Texts {
 pub fn long_texts() -> Texts {
     let greatest = write_day(&greatest_day());
     let small = KNOWN_DAYS[0].text();
-    let units: [&[u8]; 7] = [b"\n", b" ", b"1", b"x", b"255 254 255\n", b"1 2 3\n", b"\0"];
+    let again = last_move().into_bytes();
+    let units: [&[u8]; 7] = [b"\n", b" ", b"1", b"x", &again, b"1 2 3\n", b"\0"];
     let mut texts = Vec::new();
     for length in [4090, 4095, 4096, 4097, 5000, 70_000] {
         for unit in units {
@@ -150,9 +159,17 @@ fn cut_texts() -> Texts {
 /// The greatest day with a 133rd move of each kind that 01 names.
 fn move_too_many_texts() -> Texts {
     let day = write_day(&greatest_day());
-    let moves = ["255 254 255", "1 2 3", "255 255 1", "256 1 1", "255 254", "to from boxes"];
-    let text = |row: &str| [&day, row.as_bytes(), b"\n"].concat();
-    moves.iter().map(|row| (format!("133rd move {row}"), text(row))).collect()
+    let (most, above) = (MOST_TRAIN_NUMBER, MOST_TRAIN_NUMBER + 1);
+    let moves = [
+        last_move(),
+        "1 2 3\n".to_string(),
+        format!("{most} {most} 1\n"),
+        format!("{above} 1 1\n"),
+        format!("{most} {}\n", most - 1),
+        "to from boxes\n".to_string(),
+    ];
+    let text = |row: &str| [&day, row.as_bytes()].concat();
+    moves.iter().map(|row| (format!("133rd move {}", row.trim_end()), text(row))).collect()
 }
 
 pub fn special_texts() -> Texts {

@@ -29,7 +29,7 @@ use Rattle.lines.specs.RowSize.{mostInRow, digits-most, row-size}
 use Rattle.dayfile.specs.Reading.{readDay}
 use Rattle.planning.specs.Planning.{begins, suffices, costWords, choiceWords, bestAnswer, placed}
 use Rattle.planfile.specs.PlanText.{valueNames, slotNames, slotRow, planLines}
-use Rattle.planfile.specs.Size.{plan-size, plan-most}
+use Rattle.planfile.specs.Size.{planBytes, plan-size, plan-most}
 use Rattle.answering.specs.Answering.{lineNames, intervalNames, refusalText, dayReply, reply, answerText}
 
 -- ---- the two lines of a refusal, as the code tells it
@@ -59,7 +59,7 @@ word-digits = omega (arith, digits-most 19 18446744073709551615 (omega arith))
 abbrev pub Word : ℕ → Type 0
 Word v = v ≤ 18446744073709551615
 
-pub nine-fits : (a b c : ℕ) → Word a → Word b → Word c → length (intervalNames ++ rowText (9 ∷ a ∷ b ∷ c ∷ [])) ≤ 124
+pub nine-fits : (a b c : ℕ) → Word a → Word b → Word c → length (intervalNames ++ rowText (9 ∷ a ∷ b ∷ c ∷ [])) ≤ planBytes
 unfolding intervalNames mostInRow
 nine-fits a b c h i j =
     omega (
@@ -69,7 +69,7 @@ nine-fits a b c h i j =
       word-digits,
     )
 
-pub other-fits : (k a : ℕ) → Word k → Word a → length (lineNames ++ rowText (k ∷ a ∷ [])) ≤ 124
+pub other-fits : (k a : ℕ) → Word k → Word a → length (lineNames ++ rowText (k ∷ a ∷ [])) ≤ planBytes
 unfolding lineNames mostInRow
 other-fits k a h i =
     omega (
@@ -119,10 +119,10 @@ module _ (y : Yard) where
             lines-front (y .trains) (y .numbers) o best (drop (length best) row) (allowed-is y best (is-best y best f .isAllowed) .long)
             ∙ ap (λ v. planLines (y .trains) (y .numbers) v best) same
 
-    pub plan-fits : length (planLines (y .trains) (y .numbers) o (placed (bestOf y) row)) ≤ 124
+    pub plan-fits : length (planLines (y .trains) (y .numbers) o (placed (bestOf y) row)) ≤ planBytes
     plan-fits = rw plan-reply (go (bestOf y) refl e)
       where
-        go : (b : Option (List ℕ)) → bestOf y ≡ b → gives o ≡ bestAnswer y b → length (dayReply y b) ≤ 124
+        go : (b : Option (List ℕ)) → bestOf y ≡ b → gives o ≡ bestAnswer y b → length (dayReply y b) ≤ planBytes
         go none f e = absurd (let z : _≡_ {A = ℕ} 0 1 = cc in omega arith)
         go (some best) f e = omega (arith, plan-size dayLimits y best (sound-is dayLimits y s) (is-best y best f .isAllowed), plan-most)
 

@@ -1,8 +1,8 @@
 // The answer of yard-plan (document 01, "The program"): from the text of a day file to the bytes that are printed, the plan file of the
 // best row or the two lines of a refusal.
 //
-// Proved: for every text and every output `answer_text` answers and leaves what `answerText` of specs/Answering.antt says, and 124 bytes
-// of output always suffice. Assumes nothing.
+// Proved: for every text and every output `answer_text` answers and leaves what `answerText` of specs/Answering.antt says, and as many
+// bytes of output as the greatest plan file has always suffice. Assumes nothing.
 ghost use mathlib.Core.Path.{_≡_};
 ghost use mathlib.Core.List.{[]};
 ghost use Prim.Native.Nat.{_≤_};
@@ -13,6 +13,7 @@ ghost use Rattle.day.specs.Answer.{number, carried};
 ghost use Rattle.day.specs.Sound.{dayLimits, yard, sound};
 ghost use Rattle.decimal.specs.Place.{Put};
 ghost use Rattle.output.specs.Output.{answer, writes, leaves};
+ghost use Rattle.planfile.specs.Size.{planBytes};
 ghost use Rattle.answering.specs.Answering.{refusalText, dayReply, answerText};
 use day::Day;
 use day::Refusal;
@@ -26,8 +27,8 @@ const INTERVAL_NAMES: [u8; 26] = *b"refusal first last trains\n";
 
 // Puts the two lines of a refusal at the front. Gives their length.
 fn put_refusal(out: &mut [u8], refusal: Refusal) -> usize
-    requires { ⌜ 124 ≤ length (now out) ⌝ }
-    ensures { λ r. ⌜ Put (now (out .entry)) (now (out .exit)) 0 r (refusalText (number refusal) (carried refusal)) × (r ≤ 124) ⌝ }
+    requires { ⌜ planBytes ≤ length (now out) ⌝ }
+    ensures { λ r. ⌜ Put (now (out .entry)) (now (out .exit)) 0 r (refusalText (number refusal) (carried refusal)) × (r ≤ planBytes) ⌝ }
 {
     let told = refusals::in_numbers(refusal);
     if told.number == 9 {
@@ -41,8 +42,8 @@ fn put_refusal(out: &mut [u8], refusal: Refusal) -> usize
 // Plans a sound day and puts the reply at the front: the plan file of the best row, or the two lines of 9. Gives its length. The areas
 // are local; they suffice for every sound day.
 fn put_best(out: &mut [u8], day: Day) -> usize
-    requires { ⌜ T (sound dayLimits (yard day)) × (124 ≤ length (now out)) ⌝ }
-    ensures { λ r. ⌜ Put (now (out .entry)) (now (out .exit)) 0 r (dayReply (yard day) (bestOf (yard day))) × (r ≤ 124) ⌝ }
+    requires { ⌜ T (sound dayLimits (yard day)) × (planBytes ≤ length (now out)) ⌝ }
+    ensures { λ r. ⌜ Put (now (out .entry)) (now (out .exit)) 0 r (dayReply (yard day) (bestOf (yard day))) × (r ≤ planBytes) ⌝ }
 {
     let numbers = day.numbers;
     let mut cost = [0u64; 4096];
@@ -56,8 +57,8 @@ fn put_best(out: &mut [u8], day: Day) -> usize
 
 // Reads a text and puts the answer at the front. Gives its length.
 fn put_answer(text: &[u8], out: &mut [u8]) -> usize
-    requires { ⌜ 124 ≤ length (now out) ⌝ }
-    ensures { λ r. ⌜ Put (now (out .entry)) (now (out .exit)) 0 r (answerText dayLimits (now (text .entry))) × (r ≤ 124) ⌝ }
+    requires { ⌜ planBytes ≤ length (now out) ⌝ }
+    ensures { λ r. ⌜ Put (now (out .entry)) (now (out .exit)) 0 r (answerText dayLimits (now (text .entry))) × (r ≤ planBytes) ⌝ }
 {
     let reading = dayread::read_day(text);
     let outcome = reading.outcome;
@@ -72,9 +73,9 @@ fn put_answer(text: &[u8], out: &mut [u8]) -> usize
 pub fn answer_text(text: &[u8], out: &mut [u8]) -> Wrote
     ensures { λ r. ⌜ answer r ≡ writes [] (answerText dayLimits (now (text .entry))) (length (now (out .entry))) ⌝ }
     ensures { λ r. ⌜ now (out .exit) ≡ leaves [] (answerText dayLimits (now (text .entry))) (now (out .entry)) ⌝ }
-    ensures { λ r. ⌜ length (answerText dayLimits (now (text .entry))) ≤ 124 ⌝ }
+    ensures { λ r. ⌜ length (answerText dayLimits (now (text .entry))) ≤ planBytes ⌝ }
 {
-    let mut reply = [0u8; 124];
+    let mut reply = [0u8; planfile::PLAN_BYTES];
     let count = put_answer(text, &mut reply);
     output::write_text(&reply[..count], out)
 }

@@ -1,5 +1,5 @@
 -- The greatest size of a day file: the text of a sound day has at most as many bytes as the limits allow, and so has every text that
--- is accepted; with the limits of document 01 these are 1,765. Stated over any limits: others only change the number.
+-- is accepted; with the limits of document 01 these are `dayBytes`. Stated over any limits: others only change the number.
 -- Assumes nothing.
 use mathlib.Core.Path.{_≡_, refl, ap, subst}
 use mathlib.Core.Bool.{Bool, true, false, not, cond, _&&_}
@@ -166,9 +166,12 @@ day-size l y s =
 
 -- ---- with the limits of 01
 
-pub day-most : mostBytes dayLimits ≡ 1765
+abbrev pub dayBytes : ℕ
+dayBytes = 1765
+
+pub day-most : mostBytes dayLimits ≡ dayBytes
 unfolding mostBytes mostInRow headRanges trainRanges moveRanges headNames trainNames moveNames digitsWithin
 day-most = refl
 
-pub accepted-size : (text : List ℕ) (y : Yard) → readDay dayLimits text ≡ gives y → length text ≤ 1765
+pub accepted-size : (text : List ℕ) (y : Yard) → readDay dayLimits text ≡ gives y → length text ≤ dayBytes
 accepted-size text y r = omega (arith, ap length (read-write dayLimits text y r), day-size dayLimits y (read-sound dayLimits text y r), day-most)

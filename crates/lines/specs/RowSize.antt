@@ -44,6 +44,16 @@ digits-most (suc k) v h =
     (λ b. omega (arith, length-one v b))
     (le-or-lt 10 v)
 
+-- and a value of at least 10 ^ k more than k
+ten-pow : (k : ℕ) → 1 ≤ 10 ^ k
+ten-pow zero = omega arith
+ten-pow (suc k) = omega (arith, ten-pow k)
+
+pub digits-least : (k v : ℕ) → 10 ^ k ≤ v → k < length (digits v)
+digits-least zero v h = omega (arith, some-digit v)
+digits-least (suc k) v h =
+    omega (arith, length-more v (omega (arith, ten-pow k)), digits-least k (v / 10) (omega arith))
+
 -- ---- rows
 
 pub row-size : (ranges : List Range) (values : List ℕ) → length values ≡ length ranges → Within ranges values → length (rowText values) ≤ mostInRow ranges

@@ -1,3 +1,4 @@
 pub mod PlanText
 pub mod Size
+pub mod Reached
 pub mod Laws

@@ -1,5 +1,5 @@
 -- The greatest size of a plan file: that of an allowed row of a sound day has at most as many bytes as the limits allow; with the limits
--- of document 01 these are no more than 124. Stated over any limits: others only change the number.
+-- of document 01 these are no more than `planBytes`. Stated over any limits: others only change the number.
 -- Assumes nothing.
 use mathlib.Core.Path.{_≡_, refl}
 use mathlib.Core.List.{List, [], _∷_}
@@ -70,7 +70,10 @@ module _ (l : Limits) (y : Yard) (row : List ℕ) (s : Sound l y) (a : T (allowe
 
 -- ---- with the limits of 01
 
-pub plan-most : mostBytes dayLimits ≤ 124
+abbrev pub planBytes : ℕ
+planBytes = 124
+
+pub plan-most : mostBytes dayLimits ≤ planBytes
 unfolding mostBytes mostInRow valueRanges slotRanges mostSplits mostCost weighed valueNames slotNames
 plan-most =
     omega (

@@ -2,7 +2,7 @@
 // returns their count and leaves the bytes beyond. A refusal changes no byte.
 //
 // Proved: for every record, every row and every output `write_plan` answers and leaves what `writes` and `leaves` of output's Output.antt
-// say of valuing's checks and of the plan's text (specs/PlanText.antt), which has at most 124 bytes. The functions below it take slices,
+// say of valuing's checks and of the plan's text (specs/PlanText.antt), which has at most `planBytes` bytes. The functions below it take slices,
 // so that records of other sizes use them too. Assumes nothing.
 ghost use mathlib.Core.Path.{_≡_};
 ghost use Prim.Native.Nat.{_+_, _≤_};
@@ -17,6 +17,9 @@ use day::Day;
 use output::Wrote;
 use valuing::Value;
 use valuing::Valued;
+
+// The greatest size of a plan file (specs/Size.antt).
+pub const PLAN_BYTES: usize = 124;
 
 pub const VALUE_NAMES: [u8; 21] = *b"revisits splits cost\n";
 
@@ -64,7 +67,7 @@ pub fn write_plan(day: Day, row: &[u8], out: &mut [u8]) -> Wrote
         Valued::Refused(refusal) => Wrote::Refused(refusal),
         Valued::Values(value) => {
             let numbers = day.numbers;
-            let mut text = [0u8; 124];
+            let mut text = [0u8; PLAN_BYTES];
             let count = put_plan(&mut text, &numbers, row, day.trains, value);
             output::write_text(&text[..count], out)
         }

@@ -24,6 +24,7 @@ use Rattle.lines.specs.Lines.{ascii, byte, names, field, row, rowText}
 use Rattle.dayfile.specs.Reading.{headNames, trainNames, moveNames, position, readTrains, readMoves, readFile, stored, dayOf, readDay}
 use Rattle.dayfile.specs.Writing.{dayText}
 use Rattle.dayfile.specs.RoundTrip.{read-write}
+use Rattle.dayfile.specs.Size.{dayBytes}
 
 -- ---- what a line says
 
@@ -209,7 +210,7 @@ unfolding allPass passes sameYard isDay isGiven isRefused sameList table readDay
 computed = tt
 
 -- the bound of `accepted-size` (the day file's Size.antt) is reached
-pub full-size : length fullFile ≡ 1765
+pub full-size : length fullFile ≡ dayBytes
 unfolding fullFile
 full-size = refl
 

@@ -11,7 +11,7 @@ use output::Wrote;
 fn main() {
     let mut text = io::buffer();
     let read = io::read_full(STDIN_FILENO, &mut text);
-    let mut reply = [0u8; 124];
+    let mut reply = [0u8; planfile::PLAN_BYTES];
     if let Wrote::Bytes(count) = answering::answer_text(&text[..read], &mut reply) {
         io::write_all(STDOUT_FILENO, &reply[..count]);
     }

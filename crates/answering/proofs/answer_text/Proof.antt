@@ -6,12 +6,13 @@ use native.Mathlib.Omega.{arith}
 use lib.ListN.{length, take}
 use Rattle.day.specs.Sound.{dayLimits}
 use Rattle.output.specs.Laws.{put-count, put-front}
+use Rattle.planfile.specs.Size.{planBytes}
 use Rattle.answering.specs.Answering.{answerText}
 use borrow.Author.Needs.{needs}
 use Rattle.answering.proofs.answer_text.Statement.{statement}
 use Rattle.answering.proofs.answer_text.Tie as tie
 
-fits : (c : tie.After-put-answer) → length (answerText dayLimits (c .before .before .before .before .args .text .now)) ≤ 124
+fits : (c : tie.After-put-answer) → length (answerText dayLimits (c .before .before .before .before .args .text .now)) ≤ planBytes
 fits c = omega (arith, put-count (c .put-answer .ensures .0), c .put-answer .ensures .1)
 
 -- the buffer's front is the answer

@@ -12,6 +12,7 @@ use Rattle.day.specs.Answer.{gives}
 use Rattle.output.specs.Laws.{put-count}
 use Rattle.valuing.specs.Valuing.{outcomeOf}
 use Rattle.planfile.specs.PlanText.{planLines}
+use Rattle.planfile.specs.Size.{planBytes}
 use Rattle.planning.specs.Planning.{answer, bestAnswer, placed}
 use Rattle.planning.specs.Demand.{says, rowIs}
 use Rattle.answering.specs.Answering.{dayReply}
@@ -51,7 +52,7 @@ lines-are c =
     let s = p .before .before .before .before .before .before in
     ap (lines c) (row-left p .1) ∙ plan-reply (yard (s .args .day)) (s .pre .0) (row-left p .0) (plan-said c)
 
-lines-fit : (c : tie.After-known-told2) → length (lines c (plan-of c .plan .last .1 .1 .1 .0)) ≤ 124
+lines-fit : (c : tie.After-known-told2) → length (lines c (plan-of c .plan .last .1 .1 .1 .0)) ≤ planBytes
 lines-fit c =
     let p = plan-of c in
     let s = p .before .before .before .before .before .before in

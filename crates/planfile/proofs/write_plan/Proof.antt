@@ -15,7 +15,7 @@ use Rattle.valuing.specs.Valuing.{rowChecks, outcomeOf, valued}
 use Rattle.valuing.specs.Laws.{allowed-valued}
 use Rattle.output.specs.Laws.{put-count, put-front, says-refused, says-text}
 use Rattle.planfile.specs.PlanText.{planLines, planText}
-use Rattle.planfile.specs.Size.{plan-size, plan-most}
+use Rattle.planfile.specs.Size.{planBytes, plan-size, plan-most}
 use borrow.Author.Needs.{needs}
 use Rattle.planfile.proofs.write_plan.Statement.{statement}
 use Rattle.planfile.proofs.write_plan.Tie as tie
@@ -40,7 +40,7 @@ text-is : (c : tie.After-known-told2) → let a = c .before .before .before .bef
     planLines (a .day .trains) (a .day .numbers) (outcomeOf (c .before .value .given .0 .0)) (a .row .now) ≡ planText (yard (a .day)) (a .row .now)
 text-is c = let a = c .before .before .before .before .before .before .args in ap (λ o. planLines (a .day .trains) (a .day .numbers) o (a .row .now)) (sym (facts c .2))
 
-text-fits : (c : tie.After-known-told2) → let a = c .before .before .before .before .before .before .args in length (planText (yard (a .day)) (a .row .now)) ≤ 124
+text-fits : (c : tie.After-known-told2) → let a = c .before .before .before .before .before .before .args in length (planText (yard (a .day)) (a .row .now)) ≤ planBytes
 text-fits c = omega (arith, plan-size dayLimits _ _ (sound-is _ _ (facts c .0)) (facts c .1), plan-most)
 
 -- the buffer's front is that text
@@ -48,7 +48,7 @@ abbrev known : tie.After-put-plan → tie.After-known-told2
 known c = c .before .before .before .before
 
 fits : (c : tie.After-put-plan) → let a = known c .before .before .before .before .before .before .args in
-    length (planLines (a .day .trains) (a .day .numbers) (outcomeOf (known c .before .value .given .0 .0)) (a .row .now)) ≤ 124
+    length (planLines (a .day .trains) (a .day .numbers) (outcomeOf (known c .before .value .given .0 .0)) (a .row .now)) ≤ planBytes
 fits c = rw (text-is (known c)) (text-fits (known c))
 
 front : (c : tie.After-put-plan) → let a = known c .before .before .before .before .before .before .args in
