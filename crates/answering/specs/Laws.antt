@@ -25,7 +25,7 @@ use Rattle.day.specs.declared.Limits.{Limits}
 use Rattle.refusals.specs.declared.Numbered.{Numbered}
 use Rattle.day.specs.declared.Refusal.{Refusal}
 use Rattle.lines.specs.Lines.{rowText, rowsText}
-use Rattle.lines.specs.RowSize.{mostInRow, digits-most, row-size}
+use Rattle.lines.specs.RowSize.{mostInRow, digits-size, row-size}
 use Rattle.dayfile.specs.Reading.{readDay}
 use Rattle.planning.specs.Planning.{begins, suffices, costWords, choiceWords, bestAnswer, placed}
 use Rattle.planfile.specs.PlanText.{valueNames, slotNames, slotRow, planLines}
@@ -54,7 +54,7 @@ word = range 0 18446744073709551615
 
 word-digits : mostInRow (word ∷ []) ≤ 21
 unfolding mostInRow
-word-digits = omega (arith, digits-most 19 18446744073709551615 (omega arith))
+word-digits = omega (arith, digits-size 19 18446744073709551615 (omega arith) (omega arith))
 
 abbrev pub Word : ℕ → Type 0
 Word v = v ≤ 18446744073709551615

@@ -18,9 +18,8 @@ use Rattle.day.specs.Answer.{gives}
 use Rattle.day.specs.Sound.{dayLimits, headRanges, trainRanges, moveRanges, headRow, receiverSound, pairSound, sound}
 use Rattle.day.specs.SoundLaws.{within-is, shaped-is, sound-tests, sound-is}
 use Rattle.day.specs.declared.Limits.{Limits}
-use Rattle.decimal.specs.Decimal.{digitsWithin}
 use Rattle.lines.specs.Lines.{rowText, rowsText}
-use Rattle.lines.specs.RowSize.{mostInRow, digits-rise, row-size}
+use Rattle.lines.specs.RowSize.{mostInRow, digits-rise, digits-size, row-size}
 use Rattle.dayfile.specs.Reading.{headNames, trainNames, moveNames, field1, numbersOf, File, readDay}
 use Rattle.dayfile.specs.Writing.{fileText, moveRow, moveRows, fileOf, dayText}
 use Rattle.dayfile.specs.Files.{FineTrains, FineMoves}
@@ -170,8 +169,15 @@ abbrev pub dayBytes : ℕ
 dayBytes = 1765
 
 pub day-most : mostBytes dayLimits ≡ dayBytes
-unfolding mostBytes mostInRow headRanges trainRanges moveRanges headNames trainNames moveNames digitsWithin
-day-most = refl
+unfolding mostBytes mostInRow headRanges trainRanges moveRanges headNames trainNames moveNames
+day-most =
+    omega (
+      arith,
+      digits-size 1 12 (omega arith) (omega arith),
+      digits-size 0 8 (omega arith) (omega arith),
+      digits-size 4 65535 (omega arith) (omega arith),
+      digits-size 2 255 (omega arith) (omega arith),
+    )
 
 pub accepted-size : (text : List ℕ) (y : Yard) → readDay dayLimits text ≡ gives y → length text ≤ dayBytes
 accepted-size text y r = omega (arith, ap length (read-write dayLimits text y r), day-size dayLimits y (read-sound dayLimits text y r), day-most)

@@ -3,17 +3,18 @@
 use mathlib.Core.Path.{_≡_, refl, ap, _∙_}
 use mathlib.Core.Bool.{cond}
 use mathlib.Core.List.{List, [], _∷_}
-use Prim.Native.Nat.{ℕ, _+_, _/_, _%_}
+use Prim.Native.Nat.{ℕ, zero, suc, _+_, _*_, _/_, _%_, _<_}
+use native.Mathlib.Nat.{suc-mul}
 use native.Mathlib.Omega.{arith}
 use lib.Dec.{T, eqb}
-use lib.ListN.{length, length-append}
-use Rattle.fold.specs.Fold.{sum, count, some, each}
+use lib.ListN.{length, getD, length-append}
+use Rattle.fold.specs.Fold.{sum, count, some, each, each-at}
 use Rattle.fold.specs.Listed.{listed}
-use Rattle.model.specs.Model.{Yard, Outcome, outcome, lateSupplier, revisiting, revisits, splitBoxes, splitsTo, splits, weighed, inSlots, inWindow, load, roomy, allowed}
-use Rattle.day.specs.Sound.{dayLimits, within, headRanges, trainRanges, numberBefore, trainSound, unused, positionSound, pairSound, receiverSound, shaped, sound}
-use Rattle.decimal.specs.Decimal.{digits, digitsWithin}
-use Rattle.lines.specs.Lines.{fieldText, rowText, rowsText}
-use Rattle.lines.specs.RowSize.{digits-most, digits-least}
+use Rattle.model.specs.Model.{Yard, Outcome, slotOf, outcome, lateSupplier, revisiting, revisits, splitBoxes, splitsTo, splits, weighed, inSlots, inWindow, load, roomy, allowed}
+use Rattle.day.specs.Sound.{dayLimits, Range, range, within, headRanges, trainRanges, numberBefore, trainSound, unused, positionSound, pairSound, receiverSound, shaped, sound}
+use Rattle.day.specs.SoundLaws.{within-is}
+use Rattle.lines.specs.Lines.{rowText, rowsText}
+use Rattle.lines.specs.RowSize.{inRow, digits-size, row-length}
 use Rattle.planfile.specs.PlanText.{valueNames, slotNames, valueRow, slotRow, planLines, planText}
 use Rattle.planfile.specs.Size.{planBytes}
 
@@ -53,35 +54,53 @@ dearest-outcome : outcome dearest slots ≡ figures
 unfolding slots dearest sum count some lateSupplier revisiting revisits splitBoxes splitsTo splits weighed
 dearest-outcome = refl
 
--- the sizes: of the row of values, of the twelve rows, of the file
-
-cost-size : length (digits (figures .cost)) ≡ 10
-cost-size = omega (arith, digits-most 9 (figures .cost) (omega arith), digits-least 9 (figures .cost) (omega arith))
-
-counts-size : length (digits (figures .revisits)) + length (digits (figures .splits)) ≡ 7
-unfolding digitsWithin
-counts-size = refl
+-- the row of values, the twelve rows, the file
 
 values-size : length (rowText (valueRow figures)) ≡ 20
-unfolding rowText
+unfolding inRow
 values-size =
     omega (
       arith,
-      length-append (fieldText (figures .revisits) 32) (rowText (figures .splits ∷ figures .cost ∷ [])),
-      length-append (digits (figures .revisits)) (32 ∷ []),
-      length-append (fieldText (figures .splits) 32) (rowText (figures .cost ∷ [])),
-      length-append (digits (figures .splits)) (32 ∷ []),
-      length-append (digits (figures .cost)) (10 ∷ []),
-      counts-size,
-      cost-size,
+      row-length (valueRow figures),
+      digits-size 1 (figures .revisits) (omega arith) (omega arith),
+      digits-size 4 (figures .splits) (omega arith) (omega arith),
+      digits-size 9 (figures .cost) (omega arith) (omega arith),
     )
 
-rows-size : length (rowsText (listed (dearest .trains) (slotRow (dearest .numbers) slots))) ≡ 72
-unfolding slots dearest listed rowsText rowText digitsWithin
-rows-size = refl
+-- each number has three digits, each slot one
+abbrev ranges : List Range
+ranges = range 100 255 ∷ range 1 8 ∷ []
+
+rows-within : T (each 12 λ i. within ranges (slotRow (dearest .numbers) slots i))
+unfolding slots dearest each within
+rows-within = tt
+
+row-bytes : (i : ℕ) → i < 12 → length (rowText (slotRow (dearest .numbers) slots i)) ≡ 6
+unfolding inRow
+row-bytes i h =
+    let row = slotRow (dearest .numbers) slots i in
+    let w = within-is ranges row (each-at 12 (λ i. within ranges (slotRow (dearest .numbers) slots i)) rows-within i h) in
+    omega (
+      arith,
+      row-length row,
+      digits-size 2 (getD (dearest .numbers) i 0) (w .0 .0) (omega (arith, w .0 .1)),
+      digits-size 0 (slotOf slots i) (w .1 .0 .0) (omega (arith, w .1 .0 .1)),
+    )
+
+rows-bytes : (n m : ℕ) (f : ℕ → List ℕ) → ((i : ℕ) → i < n → length (rowText (f i)) ≡ m) → length (rowsText (listed n f)) ≡ n * m
+unfolding rowsText listed
+rows-bytes zero m f h = omega arith
+rows-bytes (suc n) m f h =
+    omega (
+      arith,
+      length-append (rowText (f 0)) (rowsText (listed n λ i. f (suc i))),
+      h 0 (omega arith),
+      rows-bytes n m (λ i. f (suc i)) (λ i k. h (suc i) (omega arith)),
+      suc-mul n m,
+    )
 
 pub reached : length (planText dearest slots) ≡ planBytes
-unfolding planLines valueNames slotNames
+unfolding dearest planLines valueNames slotNames
 reached =
-    ap (λ o. length (planLines (dearest .trains) (dearest .numbers) o slots)) dearest-outcome
-    ∙ simp length-append (omega (arith, values-size, rows-size))
+    ap (λ o. length (planLines 12 (dearest .numbers) o slots)) dearest-outcome
+    ∙ simp length-append (omega (arith, values-size, rows-bytes 12 6 (slotRow (dearest .numbers) slots) row-bytes))

@@ -1,5 +1,5 @@
 -- The greatest size of a plan file: that of an allowed row of a sound day has at most as many bytes as the limits allow; with the limits
--- of document 01 these are no more than `planBytes`. Stated over any limits: others only change the number.
+-- of document 01 these are `planBytes`. Stated over any limits: others only change the number.
 -- Assumes nothing.
 use mathlib.Core.Path.{_≡_, refl}
 use mathlib.Core.List.{List, [], _∷_}
@@ -16,7 +16,7 @@ use Rattle.day.specs.SoundLaws.{Sound, Within}
 use Rattle.day.specs.Most.{mostSplits, mostCost, sound-revisits, sound-splits, sound-cost}
 use Rattle.day.specs.declared.Limits.{Limits}
 use Rattle.lines.specs.Lines.{rowText, rowsText}
-use Rattle.lines.specs.RowSize.{mostInRow, digits-most, row-size}
+use Rattle.lines.specs.RowSize.{mostInRow, digits-size, row-size}
 use Rattle.planfile.specs.PlanText.{valueNames, slotNames, valueRow, slotRow, planLines, planText}
 
 -- ---- the greatest size
@@ -73,14 +73,14 @@ module _ (l : Limits) (y : Yard) (row : List ℕ) (s : Sound l y) (a : T (allowe
 abbrev pub planBytes : ℕ
 planBytes = 124
 
-pub plan-most : mostBytes dayLimits ≤ planBytes
+pub plan-most : mostBytes dayLimits ≡ planBytes
 unfolding mostBytes mostInRow valueRanges slotRanges mostSplits mostCost weighed valueNames slotNames
 plan-most =
     omega (
       arith,
-      digits-most 1 12 (omega arith),
-      digits-most 4 33660 (omega arith),
-      digits-most 9 2206694520 (omega arith),
-      digits-most 2 255 (omega arith),
-      digits-most 0 8 (omega arith),
+      digits-size 1 12 (omega arith) (omega arith),
+      digits-size 4 33660 (omega arith) (omega arith),
+      digits-size 9 2206694520 (omega arith) (omega arith),
+      digits-size 2 255 (omega arith) (omega arith),
+      digits-size 0 8 (omega arith) (omega arith),
     )

@@ -20,7 +20,7 @@ use Rattle.day.specs.Sound.{dayLimits, yard, within, headRanges, trainRanges, m
 use Rattle.day.specs.declared.Day.{Day}
 use Rattle.table.specs.Days.{move, openDay, paperDay, numbered}
 use Rattle.decimal.specs.Decimal.{more, value, digitsWithin}
-use Rattle.lines.specs.Lines.{ascii, byte, names, field, row, rowText}
+use Rattle.lines.specs.Lines.{ascii, byte, names, field, row}
 use Rattle.dayfile.specs.Reading.{headNames, trainNames, moveNames, position, readTrains, readMoves, readFile, stored, dayOf, readDay}
 use Rattle.dayfile.specs.Writing.{dayText}
 use Rattle.dayfile.specs.RoundTrip.{read-write}
@@ -63,11 +63,12 @@ withTrains trains = file "4 2 2 1 1\n" trains "1 4 1\n3 1 3\n3 4 5\n4 2 6\n4 3 1
 
 -- the longest file: 12 trains with the numbers 244 to 255, a move for each pair, every value of the most digits
 unfoldable pub fullFile : List ℕ
-unfolding headNames trainNames moveNames joined rowText digitsWithin
+unfolding headNames trainNames moveNames joined digitsWithin
 fullFile =
+    let number : ℕ → List ℕ = λ i. digitsWithin 4 (244 + i) in
     headNames ++ ascii "12 12 8 65535 65535\n"
-    ++ trainNames ++ joined 12 (λ i. rowText ((244 + i) ∷ 8 ∷ 8 ∷ []))
-    ++ moveNames ++ joined 12 (λ i. joined 12 λ j. cond (eqb i j) [] (rowText ((244 + i) ∷ (244 + j) ∷ 255 ∷ [])))
+    ++ trainNames ++ joined 12 (λ i. number i ++ ascii " 8 8\n")
+    ++ moveNames ++ joined 12 (λ i. joined 12 λ j. cond (eqb i j) [] (number i ++ ascii " " ++ number j ++ ascii " 255\n"))
 
 -- ---- the table
 
