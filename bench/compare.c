@@ -42,7 +42,7 @@ enum { FUNCTIONS = sizeof functions / sizeof *functions, COMPILED = (FUNCTIONS -
 
 /* ---- the days, as texts */
 
-/* A day file has at most 1,765 bytes. */
+/* A day file has at most 2,317 bytes. */
 enum { MOST_TEXT = 4096, MOST_DAYS = 64, MOST_TRAINS = 12, PER_PROBABILITY = 5 };
 
 enum group { MAIN, PUBLISHED, GROWTH, WINDOWS, REFUSED };

@@ -13,7 +13,7 @@
 #define ANSWER c_answer
 #endif
 
-enum { WIDTH = 12, SETS = 4096, SLOTS = 8, ANSWER_BYTES = 124 };
+enum { WIDTH = 12, SETS = 4096, SLOTS = 8, ANSWER_BYTES = 148 };
 
 #define NONE UINT64_MAX
 #define BARRED UINT32_MAX
@@ -49,7 +49,7 @@ static int is_sound(const struct day *d)
     for (size_t i = 0; i < WIDTH; i++) {
         if (i < n) {
             uint32_t before = i == 0 ? 0 : d->numbers[i - 1];
-            if (d->numbers[i] <= before || d->numbers[i] > 255)
+            if (d->numbers[i] <= before || d->numbers[i] > 99999)
                 return 0;
             if (d->first[i] < 1 || d->first[i] > d->last[i] || d->last[i] > d->slots)
                 return 0;

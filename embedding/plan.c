@@ -9,7 +9,7 @@
 
 #include "yard.h"
 
-/* A day file has at most 1,765 bytes; one byte more tells a longer text from a whole one, and either is refused by its own lines. */
+/* A day file has at most 2,317 bytes; one byte more tells a longer text from a whole one, and either is refused by its own lines. */
 enum { MOST_TEXT = 4096, MOST_TRAINS = 12 };
 
 static size_t read_file(const char *name, uint8_t *text)

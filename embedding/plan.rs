@@ -30,9 +30,12 @@ struct Refusal {
     carries: [u64; 3],
 }
 
-/// What yard-plan prints for a text. 124 bytes suffice for every answer.
+/// Bytes that suffice for every answer, YARD_ANSWER_BYTES of yard.h.
+const ANSWER_BYTES: usize = 148;
+
+/// What yard-plan prints for a text.
 fn answer(text: &[u8]) -> Vec<u8> {
-    let mut out = vec![0u8; 124];
+    let mut out = vec![0u8; ANSWER_BYTES];
     let mut bytes = 0usize;
     // A slice has the length that it says, and the three do not overlap: that is all the function asks.
     let refusal = unsafe { sys::yard_answer(text.as_ptr(), text.len(), out.as_mut_ptr(), out.len(), &mut bytes) };

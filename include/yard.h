@@ -31,7 +31,7 @@ extern "C" {
 #endif
 
 /* Bytes of output that suffice for every answer. */
-#define YARD_ANSWER_BYTES 124
+#define YARD_ANSWER_BYTES 148
 
 /* Plans the day of a text: what the program yard-plan prints for it, byte for byte. That is the plan file; or, for a text that is no day
  * file, the two lines of refusals 1 to 7; or, for a day without a plan, the two lines of refusal 9.

@@ -143,11 +143,22 @@ fn first_above_last(random: &mut Random, draft: &mut Draft) {
     }
 }
 
+/// Any train number, or one that a careless comparison takes for `number`:
+/// beside it, equal in its low bits, a digit shorter or longer.
+fn like(random: &mut Random, number: usize) -> usize {
+    let bits = random.pick(&[number % 256, number + 256, number % 65536, number + 65536]);
+    let near = random.pick(&[number - 1, number + 1, number / 10, number * 10]);
+    let any = random.between(1, MOST_TRAIN_NUMBER);
+    random.pick(&[bits, near, any])
+}
+
+/// A move to or from a train that is not there.
 fn unlisted_train(random: &mut Random, draft: &mut Draft) {
     let listed: Vec<usize> = draft.day.trains.iter().map(|train| train.number).collect();
-    let mut number = random.between(1, MOST_TRAIN_NUMBER);
-    while listed.contains(&number) {
-        number = random.between(1, MOST_TRAIN_NUMBER);
+    let mut number = 0;
+    while !(1..=MOST_TRAIN_NUMBER).contains(&number) || listed.contains(&number) {
+        let there = random.pick(&listed);
+        number = like(random, there);
     }
     if let Some(line) = pick_any(random, &draft.move_lines()) {
         draft.set_field(line, random.below(2), number);

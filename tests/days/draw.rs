@@ -213,16 +213,28 @@ fn narrow_yard(random: &mut Random, yard: &mut Yard, most: usize) {
     }
 }
 
-/// Rising train numbers over the whole range, its two ends often among them.
+/// Any train number, or one of one to five digits, each count as often.
+fn draw_number(random: &mut Random) -> usize {
+    let power = 10_usize.pow(random.below(5) as u32);
+    let of_size = random.between(power, 10 * power - 1);
+    let any = random.between(1, MOST_TRAIN_NUMBER);
+    random.pick(&[of_size, any])
+}
+
+/// Rising train numbers over the whole range, its two ends often among them,
+/// or numbers whose low eight or sixteen bits are the same.
 fn draw_numbers(random: &mut Random, n: usize) -> Vec<usize> {
-    let mut numbers: BTreeSet<usize> = match random.below(5) {
+    let apart = |start: usize, step: usize| (0..n).map(move |k| start + k * step);
+    let mut numbers: BTreeSet<usize> = match random.below(7) {
         0 => (1..=n).collect(),
         1 => (MOST_TRAIN_NUMBER + 1 - n..=MOST_TRAIN_NUMBER).collect(),
         2 if n > 1 => BTreeSet::from([1, MOST_TRAIN_NUMBER]),
+        3 => apart(random.between(1, MOST_TRAIN_NUMBER - 256 * n), 256).collect(),
+        4 => apart(random.between(1, MOST_TRAIN_NUMBER - 65536), 65536).take(2.min(n)).collect(),
         _ => BTreeSet::new(),
     };
     while numbers.len() < n {
-        numbers.insert(random.between(1, MOST_TRAIN_NUMBER));
+        numbers.insert(draw_number(random));
     }
     numbers.into_iter().collect()
 }

@@ -87,9 +87,10 @@ pub const SMALL_INPUTS: [KnownDay; 6] = [
 
 const TWO: &[&str] = &["3 1 2", "9 1 2"];
 
-/// What 01 says of the edges and of the order of the checks.
+/// What 01, and order 2 of 02 on train numbers, say of the edges and of the
+/// order of the checks.
 #[rustfmt::skip]
-pub const EDGES: [KnownDay; 22] = [
+pub const EDGES: [KnownDay; 32] = [
     known("exactly G trains in a slot", "2 2 1 1 1", &["3 1 1", "9 1 1"], &["3 9 1"], Known::Best(&[1, 1], [0, 0, 0])),
     known("weights 65535", "2 1 2 65535 65535", TWO, &["3 9 1"], Known::Best(&[2, 1], [0, 1, 65535])),
     known("weight 65536", "2 1 2 65536 1", TWO, &[], Known::Refused(3, 2)),
@@ -103,8 +104,18 @@ pub const EDGES: [KnownDay; 22] = [
     known("last after T", "2 1 2 1 1", &["3 1 3", "9 1 2"], &[], Known::Refused(3, 4)),
     known("limit before 4", "2 1 2 1 1", &["3 1 2", "3 0 2"], &[], Known::Refused(3, 5)),
     known("4 before 5", "2 1 2 1 1", &["3 1 2", "3 2 1"], &[], Known::Refused(4, 5)),
-    known("train 255", "1 1 1 1 1", &["255 1 1"], &[], Known::Best(&[1], [0, 0, 0])),
-    known("train 256", "1 1 1 1 1", &["256 1 1"], &[], Known::Refused(3, 4)),
+    known("trains 255 and 256", "2 1 2 1 1", &["255 1 2", "256 1 2"], &["255 256 1"], Known::Best(&[2, 1], [0, 1, 1])),
+    known("trains 65535 and 65536", "2 1 2 1 1", &["65535 1 2", "65536 1 2"], &["65535 65536 1"], Known::Best(&[2, 1], [0, 1, 1])),
+    known("equal but for 65536", "2 1 2 1 1", &["34463 1 2", "99999 1 2"], &["34463 99999 1"], Known::Best(&[2, 1], [0, 1, 1])),
+    known("train 9 before 10000", "2 1 2 1 1", &["9 1 2", "10000 1 2"], &["9 10000 2", "10000 9 1"], Known::Best(&[2, 1], [1, 3, 4])),
+    known("train 10000 before 9", "2 1 2 1 1", &["10000 1 2", "9 1 2"], &[], Known::Refused(4, 5)),
+    known("to 10000 before to 9", "2 1 2 1 1", &["9 1 2", "10000 1 2"], &["10000 9 1", "9 10000 1"], Known::Refused(7, 8)),
+    known("train 99999", "1 1 1 1 1", &["99999 1 1"], &[], Known::Best(&[1], [0, 0, 0])),
+    known("train 100000 is no value", "1 1 1 1 1", &["100000 1 1"], &[], Known::Refused(2, 4)),
+    known("train 0", "1 1 1 1 1", &["0 1 1"], &[], Known::Refused(3, 4)),
+    known("from 99999, unlisted", "2 1 2 1 1", TWO, &["3 99999 1"], Known::Refused(6, 7)),
+    known("from 100000 is no value", "2 1 2 1 1", TWO, &["3 100000 1"], Known::Refused(2, 7)),
+    known("from 0", "2 1 2 1 1", TWO, &["3 0 1"], Known::Refused(3, 7)),
     known("no boxes", "2 1 2 1 1", TWO, &["3 9 0"], Known::Refused(3, 7)),
     known("256 boxes", "2 1 2 1 1", TWO, &["3 9 256"], Known::Refused(3, 7)),
     known("unlisted train", "2 1 2 1 1", TWO, &["3 9 1", "9 4 1"], Known::Refused(6, 8)),

@@ -1,24 +1,24 @@
 //! The day, and the valuing and the order of assignments (01, The model).
 
 // ---------------------------------------------------------------------------
-// The day (01, The model)
+// The day (01, The model; train numbers by order 2 of 02)
 // ---------------------------------------------------------------------------
 
 pub const MOST_TRAINS: usize = 12;
 pub const MOST_TRACKS: usize = 12;
 pub const MOST_SLOTS: usize = 8;
 pub const MOST_WEIGHT: usize = 65535;
-pub const MOST_TRAIN_NUMBER: usize = 255;
+pub const MOST_TRAIN_NUMBER: usize = 99_999;
 pub const MOST_BOXES: usize = 255;
 
 /// The program reads no more of its input, and their reading decides.
 pub const MOST_BYTES_READ: usize = 4096;
 
-/// The greatest accepted file, by 01.
-pub const MOST_BYTES_ACCEPTED: usize = 1765;
+/// The greatest accepted file.
+pub const MOST_BYTES_ACCEPTED: usize = 2317;
 
 /// The greatest plan file.
-pub const MOST_BYTES_PRINTED: usize = 124;
+pub const MOST_BYTES_PRINTED: usize = 148;
 
 #[derive(Clone, Debug, PartialEq)]
 pub struct Train {

@@ -11,9 +11,9 @@ use Rattle.model.specs.Model.{Yard, cell}
 use Rattle.day.specs.declared.Day.{Day}
 use Rattle.day.specs.declared.Limits.{Limits}
 
--- ---- the limits of 01, the greatest values of each field; the least is 1, and 0 for a weight
+-- ---- the limits of 01, the greatest values of each field; the least is 1, and 0 for a weight. Train numbers: order 2 of 02
 abbrev pub dayLimits : Limits
-dayLimits = record { trains = 12; tracks = 12; slots = 8; weight = 65535; number = 255; boxes = 255 }
+dayLimits = record { trains = 12; tracks = 12; slots = 8; weight = 65535; number = 99999; boxes = 255 }
 
 -- the record as plain data
 abbrev pub yard : Day → Yard

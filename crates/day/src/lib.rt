@@ -54,7 +54,7 @@ pub enum Refusal {
     WithoutSlot(usize),
 }
 
-// The limits of document 01.
+// The limits of document 01; that of train numbers is order 2's of document 02.
 pub fn day_limits() -> Limits
     ensures { λ r. ⌜ r ≡ dayLimits ⌝ }
 {
@@ -63,7 +63,7 @@ pub fn day_limits() -> Limits
         tracks: 12,
         slots: 8,
         weight: 65535,
-        number: 255,
+        number: 99999,
         boxes: 255,
     }
 }

@@ -19,7 +19,7 @@ use Rattle.fold.specs.Fold.{each-at, each-i}
 use Rattle.fold.specs.Listed.{listed, length-listed, listed-all, listed-ext, joined, joined-ext}
 use Rattle.model.specs.Model.{Yard}
 use Rattle.day.specs.Answer.{Answer, gives}
-use Rattle.day.specs.Sound.{headRanges, trainRanges, trainRow, trainSound, unused, positionSound, pairSound, receiverSound, sound}
+use Rattle.day.specs.Sound.{dayLimits, headRanges, trainRanges, trainRow, trainSound, unused, positionSound, pairSound, receiverSound, sound}
 use Rattle.day.specs.SoundLaws.{Within, within-is, Shaped, Sound, sound-tests, tests-sound, shaped-is, is-shaped, train-tests, sound-is}
 use Rattle.day.specs.declared.Limits.{Limits}
 use Rattle.dayfile.specs.Reading.{field1, field2, field3, onward, File, numbersOf, readFile, padded, stored, dayOf, readDay}
@@ -235,3 +235,15 @@ read-write l text y h =
 -- 01: a day record is sound if some day file reads to it
 pub sound-is-read : (l : Limits) (y : Yard) → Short l → T (sound l y) ↔ ((text : List ℕ) × (readDay l text ≡ gives y))
 sound-is-read l y short = (λ s. (dayText y, write-read l y short s), λ w. read-sound l (w .0) y (w .1))
+
+-- ---- the day file's limits have at most five digits, so these laws hold of them
+
+pub day-short : Short dayLimits
+day-short =
+    record { trains = omega arith; tracks = omega arith; slots = omega arith; weight = omega arith; number = omega arith; boxes = omega arith }
+
+pub day-written-reads : (y : Yard) → T (sound dayLimits y) → readDay dayLimits (dayText y) ≡ gives y
+day-written-reads y = write-read dayLimits y day-short
+
+pub day-sound-is-read : (y : Yard) → T (sound dayLimits y) ↔ ((text : List ℕ) × (readDay dayLimits text ≡ gives y))
+day-sound-is-read y = sound-is-read dayLimits y day-short

@@ -1,5 +1,5 @@
 -- The greatest size of a day file: the text of a sound day has at most as many bytes as the limits allow, and so has every text that
--- is accepted; with the limits of document 01 these are `dayBytes`. Stated over any limits: others only change the number.
+-- is accepted; with `dayLimits` these are `dayBytes`. Stated over any limits: others only change the number.
 -- Assumes nothing.
 use mathlib.Core.Path.{_≡_, refl, ap, subst}
 use mathlib.Core.Bool.{Bool, true, false, not, cond, _&&_}
@@ -163,10 +163,10 @@ day-size l y s =
       mul-le-mul-right {m = length moves} {n = l .trains * (l .trains - 1)} (mostInRow (moveRanges l)) (moves-count l y s),
     )
 
--- ---- with the limits of 01
+-- ---- with the day file's limits
 
 abbrev pub dayBytes : ℕ
-dayBytes = 1765
+dayBytes = 2317
 
 pub day-most : mostBytes dayLimits ≡ dayBytes
 unfolding mostBytes mostInRow headRanges trainRanges moveRanges headNames trainNames moveNames
@@ -176,6 +176,7 @@ day-most =
       digits-size 1 12 (omega arith) (omega arith),
       digits-size 0 8 (omega arith) (omega arith),
       digits-size 4 65535 (omega arith) (omega arith),
+      digits-size 4 99999 (omega arith) (omega arith),
       digits-size 2 255 (omega arith) (omega arith),
     )
 

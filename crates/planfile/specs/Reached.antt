@@ -31,7 +31,7 @@ dearest = record {
   slots = 8;
   revisit = 65535;
   split = 65535;
-  numbers = listed 12 (λ i. 244 + i);
+  numbers = listed 12 (λ i. 99988 + i);
   first = slots;
   last = slots;
   width = 12;
@@ -67,15 +67,15 @@ values-size =
       digits-size 9 (figures .cost) (omega arith) (omega arith),
     )
 
--- each number has three digits, each slot one
+-- each number has five digits, each slot one
 abbrev ranges : List Range
-ranges = range 100 255 ∷ range 1 8 ∷ []
+ranges = range 10000 99999 ∷ range 1 8 ∷ []
 
 rows-within : T (each 12 λ i. within ranges (slotRow (dearest .numbers) slots i))
 unfolding slots dearest each within
 rows-within = tt
 
-row-bytes : (i : ℕ) → i < 12 → length (rowText (slotRow (dearest .numbers) slots i)) ≡ 6
+row-bytes : (i : ℕ) → i < 12 → length (rowText (slotRow (dearest .numbers) slots i)) ≡ 8
 unfolding inRow
 row-bytes i h =
     let row = slotRow (dearest .numbers) slots i in
@@ -83,7 +83,7 @@ row-bytes i h =
     omega (
       arith,
       row-length row,
-      digits-size 2 (getD (dearest .numbers) i 0) (w .0 .0) (omega (arith, w .0 .1)),
+      digits-size 4 (getD (dearest .numbers) i 0) (w .0 .0) (omega (arith, w .0 .1)),
       digits-size 0 (slotOf slots i) (w .1 .0 .0) (omega (arith, w .1 .0 .1)),
     )
 
@@ -103,4 +103,4 @@ pub reached : length (planText dearest slots) ≡ planBytes
 unfolding dearest planLines valueNames slotNames
 reached =
     ap (λ o. length (planLines 12 (dearest .numbers) o slots)) dearest-outcome
-    ∙ simp length-append (omega (arith, values-size, rows-bytes 12 6 (slotRow (dearest .numbers) slots) row-bytes))
+    ∙ simp length-append (omega (arith, values-size, rows-bytes 12 8 (slotRow (dearest .numbers) slots) row-bytes))

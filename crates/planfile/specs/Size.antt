@@ -1,5 +1,5 @@
--- The greatest size of a plan file: that of an allowed row of a sound day has at most as many bytes as the limits allow; with the limits
--- of document 01 these are `planBytes`. Stated over any limits: others only change the number.
+-- The greatest size of a plan file: that of an allowed row of a sound day has at most as many bytes as the limits allow; with the day
+-- file's limits these are `planBytes`. Stated over any limits: others only change the number.
 -- Assumes nothing.
 use mathlib.Core.Path.{_≡_, refl}
 use mathlib.Core.List.{List, [], _∷_}
@@ -68,10 +68,10 @@ module _ (l : Limits) (y : Yard) (row : List ℕ) (s : Sound l y) (a : T (allowe
   unfolding mostBytes planLines
   plan-size = simp length-append (omega (arith, values-size, slots-size))
 
--- ---- with the limits of 01
+-- ---- with the day file's limits
 
 abbrev pub planBytes : ℕ
-planBytes = 124
+planBytes = 148
 
 pub plan-most : mostBytes dayLimits ≡ planBytes
 unfolding mostBytes mostInRow valueRanges slotRanges mostSplits mostCost weighed valueNames slotNames
@@ -81,6 +81,6 @@ plan-most =
       digits-size 1 12 (omega arith) (omega arith),
       digits-size 4 33660 (omega arith) (omega arith),
       digits-size 9 2206694520 (omega arith) (omega arith),
-      digits-size 2 255 (omega arith) (omega arith),
+      digits-size 4 99999 (omega arith) (omega arith),
       digits-size 0 8 (omega arith) (omega arith),
     )

@@ -19,7 +19,7 @@ use valuing::Value;
 use valuing::Valued;
 
 // The greatest size of a plan file (specs/Size.antt).
-pub const PLAN_BYTES: usize = 124;
+pub const PLAN_BYTES: usize = 148;
 
 pub const VALUE_NAMES: [u8; 21] = *b"revisits splits cost\n";
 

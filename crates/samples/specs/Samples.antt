@@ -61,11 +61,11 @@ unfoldable pub withTrains : String → List ℕ
 unfolding file
 withTrains trains = file "4 2 2 1 1\n" trains "1 4 1\n3 1 3\n3 4 5\n4 2 6\n4 3 1\n"
 
--- the longest file: 12 trains with the numbers 244 to 255, a move for each pair, every value of the most digits
+-- the longest file: 12 trains with the numbers 99988 to 99999, a move for each pair, every value of the most digits
 unfoldable pub fullFile : List ℕ
 unfolding headNames trainNames moveNames joined digitsWithin
 fullFile =
-    let number : ℕ → List ℕ = λ i. digitsWithin 4 (244 + i) in
+    let number : ℕ → List ℕ = λ i. digitsWithin 4 (99988 + i) in
     headNames ++ ascii "12 12 8 65535 65535\n"
     ++ trainNames ++ joined 12 (λ i. number i ++ ascii " 8 8\n")
     ++ moveNames ++ joined 12 (λ i. joined 12 λ j. cond (eqb i j) [] (number i ++ ascii " " ++ number j ++ ascii " 255\n"))
@@ -88,7 +88,8 @@ table =
     -- the other two names lines
     ∷ refused (ascii "trains tracks slots revisit split\n1 2 2 1 1\ntrain last first\n1 1 2\nto from boxes\n") 1 3
     ∷ refused (ascii "trains tracks slots revisit split\n1 2 2 1 1\ntrain first last\n1 1 2\nfrom to boxes\n") 1 5
-    -- the limits: 12 trains and 13, 12 tracks and 13, 8 slots and 9, weights 65535 and 65536, numbers and boxes 255 and 256
+    -- the limits: 12 trains and 13, 12 tracks and 13, 8 slots and 9, weights 65535 and 65536, boxes 255 and 256; train numbers
+    -- 99999, and one more has six digits; numbers are compared as numbers, 9 before 10000
     ∷ accepted (file "12 12 8 1 1\n" "1 1 8\n2 1 8\n3 1 8\n4 1 8\n5 1 8\n6 1 8\n7 1 8\n8 1 8\n9 1 8\n10 1 8\n11 1 8\n12 1 8\n" "") (openDay 12 12 8 [])
     ∷ refused (file "13 12 8 1 1\n" "1 1 8\n2 1 8\n3 1 8\n4 1 8\n5 1 8\n6 1 8\n7 1 8\n8 1 8\n9 1 8\n10 1 8\n11 1 8\n12 1 8\n13 1 8\n" "") 3 2
     ∷ refused (file "0 2 2 1 1\n" "" "") 3 2
@@ -100,8 +101,13 @@ table =
     ∷ accepted (withHead "4 2 2 0 0\n") (paperDay 0 0 1)
     ∷ refused (withHead "4 2 2 65536 1\n") 3 2
     ∷ refused (withHead "4 2 2 1 65536\n") 3 2
-    ∷ accepted (file "2 1 2 1 1\n" "3 1 2\n255 1 2\n" "") (numbered (3 ∷ 255 ∷ []))
-    ∷ refused (file "2 1 2 1 1\n" "3 1 2\n256 1 2\n" "") 3 5
+    ∷ accepted (file "2 1 2 1 1\n" "255 1 2\n256 1 2\n" "") (numbered (255 ∷ 256 ∷ []) [])
+    ∷ accepted (file "2 1 2 1 1\n" "65535 1 2\n65536 1 2\n" "65536 65535 7\n") (numbered (65535 ∷ 65536 ∷ []) (move 2 1 7 ∷ []))
+    ∷ accepted (file "2 1 2 1 1\n" "1 1 2\n99999 1 2\n" "1 99999 3\n99999 1 4\n") (numbered (1 ∷ 99999 ∷ []) (move 1 2 3 ∷ move 2 1 4 ∷ []))
+    ∷ refused (file "2 1 2 1 1\n" "1 1 2\n100000 1 2\n" "") 2 5
+    ∷ accepted (file "2 1 2 1 1\n" "9 1 2\n10000 1 2\n" "9 10000 1\n10000 9 1\n") (numbered (9 ∷ 10000 ∷ []) (move 1 2 1 ∷ move 2 1 1 ∷ []))
+    ∷ refused (file "2 1 2 1 1\n" "10000 1 2\n9 1 2\n" "") 4 5
+    ∷ refused (file "2 1 2 1 1\n" "9 1 2\n10000 1 2\n" "10000 9 1\n9 10000 1\n") 7 8
     ∷ refused (withTrains "0 1 2\n2 1 2\n3 1 2\n4 1 2\n") 3 4
     ∷ refused (withTrains "1 0 2\n2 1 2\n3 1 2\n4 1 2\n") 3 4
     ∷ refused (withTrains "1 1 2\n2 1 3\n3 1 2\n4 1 2\n") 3 5
@@ -109,7 +115,10 @@ table =
     ∷ refused (withMoves "1 2 256\n") 3 9
     ∷ refused (withMoves "1 2 0\n") 3 9
     ∷ refused (withMoves "0 2 1\n") 3 9
-    ∷ refused (withMoves "1 256 1\n") 3 9
+    ∷ refused (withMoves "1 0 1\n") 3 9
+    ∷ refused (withMoves "1 99999 1\n") 6 9
+    ∷ refused (withMoves "1 100000 1\n") 2 9
+    ∷ refused (withMoves "100000 1 1\n") 2 9
     -- values: five digits and six, leading zeros
     ∷ refused (withHead "4 2 2 99999 1\n") 3 2
     ∷ refused (withHead "4 2 2 100000 1\n") 2 2
@@ -174,7 +183,7 @@ table =
     ∷ refused (withMoves "5 5 1\n") 6 9
     -- the longest file, and one row more
     ∷ acceptedSame fullFile
-    ∷ refused (fullFile ++ ascii "255 254 255\n") 7 149
+    ∷ refused (fullFile ++ ascii "99999 99998 255\n") 7 149
     ∷ []
 
 -- ---- the test of a line

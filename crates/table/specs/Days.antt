@@ -44,10 +44,10 @@ paperDay revisit split first4 =
     dayOf 4 2 2 revisit split (1 ∷ 1 ∷ 1 ∷ first4 ∷ []) (2 ∷ 2 ∷ 2 ∷ 2 ∷ [])
     (move 1 4 1 ∷ move 3 1 3 ∷ move 3 4 5 ∷ move 4 2 6 ∷ move 4 3 1 ∷ [])
 
--- two trains with numbers of their own
-unfoldable pub numbered : List ℕ → Day
+-- two trains with numbers of their own, and moves
+unfoldable pub numbered : List ℕ → List Move → Day
 unfolding padded boxTable
-numbered numbers = record {
+numbered numbers moves = record {
   trains = 2;
   tracks = 1;
   slots = 2;
@@ -56,5 +56,5 @@ numbered numbers = record {
   numbers = padded numbers;
   first = padded (1 ∷ 1 ∷ []);
   last = padded (2 ∷ 2 ∷ []);
-  boxes = boxTable [];
+  boxes = boxTable moves;
 }

@@ -74,7 +74,7 @@ table =
     ∷ values (openDay 4 2 2 []) (1 ∷ 1 ∷ 2 ∷ 2 ∷ []) (gives (counts 0 0 0))
     ∷ values (openDay 4 2 2 []) (1 ∷ 1 ∷ 1 ∷ 2 ∷ []) (refuses 13 (1 ∷ []))
     -- records that are not sound: windows outside 1..T or reversed, an unused position that is not 0, boxes from a train to itself
-    -- or from a train that is not there, 256 boxes, a number above 255, numbers that do not rise
+    -- or from a train that is not there, 256 boxes, a number above 99,999, numbers that do not rise
     ∷ accepted (dayOf 1 1 2 1 1 (0 ∷ []) (2 ∷ []) []) false
     ∷ accepted (dayOf 1 1 2 1 1 (1 ∷ []) (3 ∷ []) []) false
     ∷ accepted (dayOf 1 1 2 1 1 (2 ∷ []) (1 ∷ []) []) false
@@ -83,11 +83,13 @@ table =
     ∷ accepted (openDay 2 1 2 (move 1 3 1 ∷ [])) false
     ∷ accepted (openDay 2 1 2 (move 1 2 255 ∷ [])) true
     ∷ accepted (openDay 2 1 2 (move 1 2 256 ∷ [])) false
-    ∷ accepted (numbered (3 ∷ 255 ∷ [])) true
-    ∷ accepted (numbered (3 ∷ 256 ∷ [])) false
-    ∷ accepted (numbered (3 ∷ 3 ∷ [])) false
-    ∷ accepted (numbered (3 ∷ 2 ∷ [])) false
-    ∷ accepted (numbered (0 ∷ 2 ∷ [])) false
+    ∷ accepted (numbered (255 ∷ 256 ∷ []) []) true
+    ∷ accepted (numbered (65535 ∷ 65536 ∷ []) []) true
+    ∷ accepted (numbered (1 ∷ 99999 ∷ []) []) true
+    ∷ accepted (numbered (1 ∷ 100000 ∷ []) []) false
+    ∷ accepted (numbered (3 ∷ 3 ∷ []) []) false
+    ∷ accepted (numbered (3 ∷ 2 ∷ []) []) false
+    ∷ accepted (numbered (0 ∷ 2 ∷ []) []) false
     -- refusals 8, 11, 12, 13 in this order, with the lowest position and the lowest slot
     ∷ values (dayOf 13 12 8 1 1 (replicate 12 1) (replicate 12 8) []) (1 ∷ []) (refuses 8 (0 ∷ []))
     ∷ values (paperDay 65536 1 1) (0 ∷ 1 ∷ []) (refuses 8 (0 ∷ []))
