@@ -8,3 +8,4 @@ pub mod Fine
 pub mod RoundTrip
 pub mod Calls
 pub mod Size
+pub mod Wider

@@ -43,16 +43,22 @@ digits-size (suc k) v h g =
 
 -- ---- the bytes of a row: for each value its digits and the byte after it
 
+pub field-length : (v e : ℕ) → length (fieldText v e) ≡ length (digits v) + 1
+field-length v e = length-append (digits v) (e ∷ [])
+
+pub row-length : (v w : ℕ) (vs : List ℕ) → length (rowText (v ∷ w ∷ vs)) ≡ length (fieldText v 32) + length (rowText (w ∷ vs))
+unfolding rowText
+row-length v w vs = length-append (fieldText v 32) (rowText (w ∷ vs))
+
 unfoldable pub inRow : List ℕ → ℕ
 inRow [] = 0
 inRow (v ∷ values) = length (digits v) + 1 + inRow values
 
-pub row-length : (values : List ℕ) → length (rowText values) ≡ inRow values
+pub row-bytes : (values : List ℕ) → length (rowText values) ≡ inRow values
 unfolding rowText inRow
-row-length [] = refl
-row-length (v ∷ []) = omega (arith, length-append (digits v) (10 ∷ []))
-row-length (v ∷ u ∷ values) =
-    omega (arith, length-append (fieldText v 32) (rowText (u ∷ values)), length-append (digits v) (32 ∷ []), row-length (u ∷ values))
+row-bytes [] = refl
+row-bytes (v ∷ []) = omega (arith, field-length v 10)
+row-bytes (v ∷ u ∷ values) = omega (arith, row-length v u values, field-length v 32, row-bytes (u ∷ values))
 
 -- ---- the most of them, for values within ranges
 
@@ -68,4 +74,4 @@ most (r ∷ ranges) [] e w = omega arith
 most (r ∷ ranges) (v ∷ values) e w = omega (arith, digits-rise v (r .greatest) (w .0 .1), most ranges values (omega arith) (w .1))
 
 pub row-size : (ranges : List Range) (values : List ℕ) → length values ≡ length ranges → Within ranges values → length (rowText values) ≤ mostInRow ranges
-row-size ranges values e w = omega (arith, row-length values, most ranges values e w)
+row-size ranges values e w = omega (arith, row-bytes values, most ranges values e w)

@@ -30,13 +30,6 @@ module _ {l m : List ℕ} {p : ℕ} (word : List ℕ) (i : ℕ) where
 
 -- ---- the text of a row, value by value
 
-pub field-length : (v e : ℕ) → length (fieldText v e) ≡ length (digits v) + 1
-field-length v e = length-append (digits v) (e ∷ [])
-
-pub row-length : (v w : ℕ) (vs : List ℕ) → length (rowText (v ∷ w ∷ vs)) ≡ length (fieldText v 32) + length (rowText (w ∷ vs))
-unfolding rowText
-row-length v w vs = length-append (fieldText v 32) (rowText (w ∷ vs))
-
 pub put-row : {l m n : List ℕ} {i j k : ℕ} (v w : ℕ) (vs : List ℕ) → Put l m i j (fieldText v 32) → Put m n j k (rowText (w ∷ vs)) → Put l n i k (rowText (v ∷ w ∷ vs))
 unfolding rowText
 put-row v w vs p q = put-text p q

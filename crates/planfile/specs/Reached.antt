@@ -14,7 +14,7 @@ use Rattle.model.specs.Model.{Yard, Outcome, slotOf, outcome, lateSupplier, rev
 use Rattle.day.specs.Sound.{dayLimits, Range, range, within, headRanges, trainRanges, numberBefore, trainSound, unused, positionSound, pairSound, receiverSound, shaped, sound}
 use Rattle.day.specs.SoundLaws.{within-is}
 use Rattle.lines.specs.Lines.{rowText, rowsText}
-use Rattle.lines.specs.RowSize.{inRow, digits-size, row-length}
+use Rattle.lines.specs.RowSize.{inRow, digits-size, row-bytes}
 use Rattle.planfile.specs.PlanText.{valueNames, slotNames, valueRow, slotRow, planLines, planText}
 use Rattle.planfile.specs.Size.{planBytes}
 
@@ -61,7 +61,7 @@ unfolding inRow
 values-size =
     omega (
       arith,
-      row-length (valueRow figures),
+      row-bytes (valueRow figures),
       digits-size 1 (figures .revisits) (omega arith) (omega arith),
       digits-size 4 (figures .splits) (omega arith) (omega arith),
       digits-size 9 (figures .cost) (omega arith) (omega arith),
@@ -75,14 +75,14 @@ rows-within : T (each 12 λ i. within ranges (slotRow (dearest .numbers) slots i
 unfolding slots dearest each within
 rows-within = tt
 
-row-bytes : (i : ℕ) → i < 12 → length (rowText (slotRow (dearest .numbers) slots i)) ≡ 8
+train-bytes : (i : ℕ) → i < 12 → length (rowText (slotRow (dearest .numbers) slots i)) ≡ 8
 unfolding inRow
-row-bytes i h =
+train-bytes i h =
     let row = slotRow (dearest .numbers) slots i in
     let w = within-is ranges row (each-at 12 (λ i. within ranges (slotRow (dearest .numbers) slots i)) rows-within i h) in
     omega (
       arith,
-      row-length row,
+      row-bytes row,
       digits-size 4 (getD (dearest .numbers) i 0) (w .0 .0) (omega (arith, w .0 .1)),
       digits-size 0 (slotOf slots i) (w .1 .0 .0) (omega (arith, w .1 .0 .1)),
     )
@@ -103,4 +103,4 @@ pub reached : length (planText dearest slots) ≡ planBytes
 unfolding dearest planLines valueNames slotNames
 reached =
     ap (λ o. length (planLines 12 (dearest .numbers) o slots)) dearest-outcome
-    ∙ simp length-append (omega (arith, values-size, rows-bytes 12 8 (slotRow (dearest .numbers) slots) row-bytes))
+    ∙ simp length-append (omega (arith, values-size, rows-bytes 12 8 (slotRow (dearest .numbers) slots) train-bytes))

@@ -2,7 +2,7 @@
 -- Assumes nothing.
 use native.Mathlib.Omega.{arith}
 use Rattle.decimal.specs.PlaceLaws.{put-byte}
-use Rattle.output.specs.Laws.{field-length}
+use Rattle.lines.specs.RowSize.{field-length}
 use borrow.Author.Needs.{needs}
 use Rattle.output.proofs.put_field.Statement.{statement}
 use Rattle.output.proofs.put_field.Tie as tie

@@ -2,7 +2,8 @@
 -- Assumes nothing.
 use mathlib.Core.List.{[], _∷_}
 use native.Mathlib.Omega.{arith}
-use Rattle.output.specs.Laws.{row-length, put-row}
+use Rattle.lines.specs.RowSize.{row-length}
+use Rattle.output.specs.Laws.{put-row}
 use borrow.Author.Needs.{needs}
 use Rattle.output.proofs.put_four.Statement.{statement}
 use Rattle.output.proofs.put_four.Tie as tie

@@ -3,7 +3,8 @@
 use mathlib.Core.List.{[]}
 use native.Mathlib.Omega.{arith}
 use Rattle.lines.specs.Lines.{rowText}
-use Rattle.output.specs.Laws.{row-length, put-row}
+use Rattle.lines.specs.RowSize.{row-length}
+use Rattle.output.specs.Laws.{put-row}
 use borrow.Author.Needs.{needs}
 use Rattle.output.proofs.put_two.Statement.{statement}
 use Rattle.output.proofs.put_two.Tie as tie
