@@ -1,9 +1,11 @@
-//! Mode generated: drawn days, damaged and special texts, and ways to feed them.
+//! Mode generated: known and drawn days, damaged and special texts, and ways to
+//! feed them.
 
 use crate::damage::draw_damaged;
 use crate::day_file::{read_day, write_day};
 use crate::draw::{draw_day, draw_sound, Random, DAMAGED_MOST};
 use crate::groups::{Tests, MOST_DIFFERENCES};
+use crate::known::{EDGES, KNOWN_DAYS, SMALL_INPUTS, TEXTS};
 use crate::plan::broken;
 use crate::process::{compare_file, escaped, Feed};
 use crate::special::{
@@ -18,6 +20,19 @@ const PIECED_TEXTS: usize = 24;
 const SOUND_SEED: u64 = 1_000_000;
 const DAMAGED_SEED: u64 = 2_000_000;
 const PIECES_SEED: u64 = 3_000_000;
+
+/// Mode self holds this program's answers to what the papers say; here
+/// yard-plan is held to them.
+fn known_group(tests: &mut Tests) {
+    tests.begin("known");
+    for day in KNOWN_DAYS.iter().chain(&SMALL_INPUTS).chain(&EDGES) {
+        let text = day.text();
+        tests.compare(day.name, &text, Feed::whole(&text));
+    }
+    for (name, text, _) in TEXTS {
+        tests.compare(name, text.as_bytes(), Feed::whole(text.as_bytes()));
+    }
+}
 
 fn sound_group(tests: &mut Tests) {
     tests.begin("sound");
@@ -91,6 +106,7 @@ fn file_group(tests: &mut Tests) {
 
 pub fn generated(program: &str) -> bool {
     let mut tests = Tests::new(program);
+    known_group(&mut tests);
     sound_group(&mut tests);
     damaged_group(&mut tests);
     special_group(&mut tests);

@@ -90,7 +90,7 @@ const TWO: &[&str] = &["3 1 2", "9 1 2"];
 /// What 01, and order 2 of 02 on train numbers, say of the edges and of the
 /// order of the checks.
 #[rustfmt::skip]
-pub const EDGES: [KnownDay; 32] = [
+pub const EDGES: [KnownDay; 33] = [
     known("exactly G trains in a slot", "2 2 1 1 1", &["3 1 1", "9 1 1"], &["3 9 1"], Known::Best(&[1, 1], [0, 0, 0])),
     known("weights 65535", "2 1 2 65535 65535", TWO, &["3 9 1"], Known::Best(&[2, 1], [0, 1, 65535])),
     known("weight 65536", "2 1 2 65536 1", TWO, &[], Known::Refused(3, 2)),
@@ -110,6 +110,7 @@ pub const EDGES: [KnownDay; 32] = [
     known("train 9 before 10000", "2 1 2 1 1", &["9 1 2", "10000 1 2"], &["9 10000 2", "10000 9 1"], Known::Best(&[2, 1], [1, 3, 4])),
     known("train 10000 before 9", "2 1 2 1 1", &["10000 1 2", "9 1 2"], &[], Known::Refused(4, 5)),
     known("to 10000 before to 9", "2 1 2 1 1", &["9 1 2", "10000 1 2"], &["10000 9 1", "9 10000 1"], Known::Refused(7, 8)),
+    known("to 99999 before to 34463", "3 2 2 1 1", &["34463 1 2", "50000 1 2", "99999 1 2"], &["99999 34463 1", "34463 50000 1"], Known::Refused(7, 9)),
     known("train 99999", "1 1 1 1 1", &["99999 1 1"], &[], Known::Best(&[1], [0, 0, 0])),
     known("train 100000 is no value", "1 1 1 1 1", &["100000 1 1"], &[], Known::Refused(2, 4)),
     known("train 0", "1 1 1 1 1", &["0 1 1"], &[], Known::Refused(3, 4)),

@@ -8,7 +8,7 @@
 //!
 //!     days expect < day.txt        prints what yard-plan has to print
 //!     days examples PROGRAM DIR    runs the stored days of DIR
-//!     days generated PROGRAM       runs drawn days and damaged texts
+//!     days generated PROGRAM       runs known and drawn days and damaged texts
 //!     days baselines               calls the library's two baselines on days
 //!     days self                    checks this program on known days
 //!
