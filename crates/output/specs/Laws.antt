@@ -13,7 +13,6 @@ use borrow.Author.Tests.{le-leb, lt-leb}
 use Rattle.fold.specs.Listed.{listed, joined, joined-none, joined-next, joined-cons, joined-front}
 use Rattle.day.specs.Answer.{Answer, gives, refuses, Check, must, checked}
 use Rattle.day.specs.AnswerLaws.{AllHold, checked-holds, checked-gives, checked-refuses}
-use Rattle.decimal.specs.Decimal.{digits}
 use Rattle.decimal.specs.Place.{Put}
 use Rattle.decimal.specs.PlaceLaws.{put-text, put-byte}
 use Rattle.lines.specs.Lines.{fieldText, rowText, rowsText}

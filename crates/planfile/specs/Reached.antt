@@ -3,12 +3,12 @@
 use mathlib.Core.Path.{_≡_, refl, ap, _∙_}
 use mathlib.Core.Bool.{cond}
 use mathlib.Core.List.{List, [], _∷_}
-use Prim.Native.Nat.{ℕ, zero, suc, _+_, _*_, _/_, _%_, _<_}
-use native.Mathlib.Nat.{suc-mul}
+use Prim.Native.Nat.{ℕ, _+_, _/_, _%_, _<_}
 use native.Mathlib.Omega.{arith}
 use lib.Dec.{T, eqb}
 use lib.ListN.{length, getD, length-append}
 use Rattle.fold.specs.Fold.{sum, count, some, each, each-at}
+use Rattle.fold.specs.Sums.{sum-ext}
 use Rattle.fold.specs.Listed.{listed}
 use Rattle.model.specs.Model.{Yard, Outcome, slotOf, outcome, lateSupplier, revisiting, revisits, splitBoxes, splitsTo, splits, weighed, inSlots, inWindow, load, roomy, allowed}
 use Rattle.day.specs.Sound.{dayLimits, Range, range, within, headRanges, trainRanges, numberBefore, trainSound, unused, positionSound, pairSound, receiverSound, shaped, sound}
@@ -16,7 +16,7 @@ use Rattle.day.specs.SoundLaws.{within-is}
 use Rattle.lines.specs.Lines.{rowText, rowsText}
 use Rattle.lines.specs.RowSize.{inRow, digits-size, row-bytes}
 use Rattle.planfile.specs.PlanText.{valueNames, slotNames, valueRow, slotRow, planLines, planText}
-use Rattle.planfile.specs.Size.{planBytes}
+use Rattle.planfile.specs.Size.{planBytes, rows-length}
 
 -- 12 trains with the greatest numbers, each bound to one slot, 255 boxes between any two, the greatest weights
 unfoldable pub slots : List ℕ
@@ -87,20 +87,12 @@ train-bytes i h =
       digits-size 0 (slotOf slots i) (w .1 .0 .0) (omega (arith, w .1 .0 .1)),
     )
 
-rows-bytes : (n m : ℕ) (f : ℕ → List ℕ) → ((i : ℕ) → i < n → length (rowText (f i)) ≡ m) → length (rowsText (listed n f)) ≡ n * m
-unfolding rowsText listed
-rows-bytes zero m f h = omega arith
-rows-bytes (suc n) m f h =
-    omega (
-      arith,
-      length-append (rowText (f 0)) (rowsText (listed n λ i. f (suc i))),
-      h 0 (omega arith),
-      rows-bytes n m (λ i. f (suc i)) (λ i k. h (suc i) (omega arith)),
-      suc-mul n m,
-    )
+rows-bytes : length (rowsText (listed 12 (slotRow (dearest .numbers) slots))) ≡ 96
+unfolding sum
+rows-bytes = rows-length 12 (slotRow (dearest .numbers) slots) ∙ sum-ext 12 (λ i. length (rowText (slotRow (dearest .numbers) slots i))) (λ i. 8) train-bytes
 
 pub reached : length (planText dearest slots) ≡ planBytes
 unfolding dearest planLines valueNames slotNames
 reached =
     ap (λ o. length (planLines 12 (dearest .numbers) o slots)) dearest-outcome
-    ∙ simp length-append (omega (arith, values-size, rows-bytes 12 8 (slotRow (dearest .numbers) slots) train-bytes))
+    ∙ simp length-append (omega (arith, values-size, rows-bytes))

@@ -1,13 +1,15 @@
 -- The greatest size of a plan file: that of an allowed row of a sound day has at most as many bytes as the limits allow; with the day
 -- file's limits these are `planBytes`. Stated over any limits: others only change the number.
 -- Assumes nothing.
-use mathlib.Core.Path.{_≡_, refl}
+use mathlib.Core.Path.{_≡_, refl, sym}
 use mathlib.Core.List.{List, [], _∷_}
 use Prim.Native.Nat.{ℕ, zero, suc, _+_, _*_, _≤_, _<_, zero-le}
-use native.Mathlib.Nat.{le-trans, suc-mul, mul-le-mul-right}
+use native.Mathlib.Nat.{le-trans, mul-le-mul-right}
 use native.Mathlib.Omega.{arith}
 use lib.Dec.{T}
 use lib.ListN.{length, length-append}
+use Rattle.fold.specs.Fold.{sum, sum-none}
+use Rattle.fold.specs.Sums.{sum-bound, sum-cons}
 use Rattle.fold.specs.Listed.{listed}
 use Rattle.model.specs.Model.{Yard, weighed, outcome, allowed}
 use Rattle.model.specs.Rows.{allowed-is}
@@ -33,18 +35,21 @@ mostBytes l = length valueNames + length slotNames + mostInRow (valueRanges l) +
 
 -- ---- rows of one form
 
-rows-size : (ranges : List Range) (n : ℕ) (f : ℕ → List ℕ) → ((i : ℕ) → i < n → (length (f i) ≡ length ranges) × Within ranges (f i))
-    → length (rowsText (listed n f)) ≤ n * mostInRow ranges
+pub rows-length : (n : ℕ) (f : ℕ → List ℕ) → length (rowsText (listed n f)) ≡ sum n (λ i. length (rowText (f i)))
 unfolding rowsText listed
-rows-size ranges zero f h = zero-le
-rows-size ranges (suc n) f h =
+rows-length zero f = sym (sum-none (λ i. length (rowText (f i))))
+rows-length (suc n) f =
     omega (
       arith,
       length-append (rowText (f 0)) (rowsText (listed n λ i. f (suc i))),
-      row-size ranges (f 0) (h 0 (omega arith) .0) (h 0 (omega arith) .1),
-      rows-size ranges n (λ i. f (suc i)) (λ i k. h (suc i) (omega arith)),
-      suc-mul n (mostInRow ranges),
+      rows-length n (λ i. f (suc i)),
+      sum-cons n (λ i. length (rowText (f i))),
     )
+
+rows-size : (ranges : List Range) (n : ℕ) (f : ℕ → List ℕ) → ((i : ℕ) → i < n → (length (f i) ≡ length ranges) × Within ranges (f i))
+    → length (rowsText (listed n f)) ≤ n * mostInRow ranges
+rows-size ranges n f h =
+    omega (arith, rows-length n f, sum-bound n (mostInRow ranges) (λ i. length (rowText (f i))) (λ i k. row-size ranges (f i) (h i k .0) (h i k .1)))
 
 -- ---- the plan file of an allowed row
 

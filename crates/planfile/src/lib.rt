@@ -2,8 +2,8 @@
 // returns their count and leaves the bytes beyond. A refusal changes no byte.
 //
 // Proved: for every record, every row and every output `write_plan` answers and leaves what `writes` and `leaves` of output's Output.antt
-// say of valuing's checks and of the plan's text (specs/PlanText.antt), which has at most `planBytes` bytes. The functions below it take slices,
-// so that records of other sizes use them too. Assumes nothing.
+// say of valuing's checks and of the plan's text (specs/PlanText.antt), which has at most `planBytes` bytes (specs/Size.antt). The
+// functions below it take slices, so that records of other sizes use them too. Assumes nothing.
 ghost use mathlib.Core.Path.{_≡_};
 ghost use Prim.Native.Nat.{_+_, _≤_};
 ghost use lib.ListN.{length};
