@@ -31,11 +31,11 @@ digits-within (suc k) v u h g =
 pub digits-rise : (v u : ℕ) → v ≤ u → length (digits v) ≤ length (digits u)
 digits-rise v u = digits-within u v u (le-refl u)
 
--- a value from 10 ^ k to below 10 ^ (k + 1) has k + 1
 ten-pow : (k : ℕ) → 1 ≤ 10 ^ k
 ten-pow zero = omega arith
 ten-pow (suc k) = omega (arith, ten-pow k)
 
+-- a value from 10 ^ k to below 10 ^ (k + 1) has k + 1
 pub digits-size : (k v : ℕ) → 10 ^ k ≤ v → v < 10 ^ suc k → length (digits v) ≡ suc k
 digits-size zero v h g = length-one v (omega arith)
 digits-size (suc k) v h g =
