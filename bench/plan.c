@@ -162,6 +162,12 @@ struct pick {
     uint16_t set;
 };
 
+/* What a slot costs in which s is served and rest remains, where the split moves of s cost splits: a sum in 32 bits. */
+static uint32_t slot_cost(const uint16_t *need, const uint32_t *late, uint32_t splits, size_t rest, size_t s)
+{
+    return late[s & need[rest]] + splits;
+}
+
 static struct pick cheapest(const uint64_t *cost, const uint16_t *need, const uint32_t *late, const uint32_t *price,
                             const uint64_t *opens, size_t j, size_t r)
 {
@@ -173,7 +179,7 @@ static struct pick cheapest(const uint64_t *cost, const uint16_t *need, const ui
             size_t rest = r - s;
             uint64_t after = cost[rest];
             if (after < NONE) {
-                uint64_t total = after + ((uint64_t)late[s & need[rest]] + splits);
+                uint64_t total = after + slot_cost(need, late, splits, rest, s);
                 if (total < p.value) {
                     p.value = total;
                     p.set = (uint16_t)s;
@@ -213,7 +219,7 @@ static void fill_last(uint64_t *cost, uint16_t *choice, const uint16_t *need, co
         uint32_t splits = price[r];
         struct pick p = {NONE, 0};
         if (splits < BARRED && (r & opens[j]) == r) {
-            p.value = (uint64_t)late[r & need[0]] + splits;
+            p.value = slot_cost(need, late, splits, 0, r);
             p.set = (uint16_t)r;
         }
         cost[r] = p.value;

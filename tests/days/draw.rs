@@ -304,6 +304,20 @@ pub fn draw_crowded(random: &mut Random, most: usize) -> Day {
     day_in(random, yard, most)
 }
 
+/// A sound day with six tracks and two slots for twelve trains, in which a slot
+/// costs about 2^bits: its 36 pairs have 228 boxes each on the average.
+pub fn draw_heavy(random: &mut Random, bits: u32) -> Day {
+    let windows = (0..MOST_TRAINS).map(|_| Window { first: 1, last: 2, home: 1 }).collect();
+    let mut day = day_in(random, Yard { tracks: 6, slots: 2, windows }, USUAL_MOST);
+    day.split_weight = (1_usize << bits).div_ceil(36 * 228);
+    for to in 0..MOST_TRAINS {
+        for from in (0..MOST_TRAINS).filter(|&from| from != to) {
+            day.boxes[to][from] = random.between(MOST_BOXES - 54, MOST_BOXES);
+        }
+    }
+    day
+}
+
 /// A sound day; one in `LARGE_ONE_IN` has more assignments than usual to try.
 pub fn draw_sound(random: &mut Random, index: usize) -> Day {
     if index % LARGE_ONE_IN != 0 {

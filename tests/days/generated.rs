@@ -5,6 +5,7 @@ use crate::damage::draw_damaged;
 use crate::day_file::{read_day, write_day};
 use crate::draw::{draw_day, draw_sound, Random, DAMAGED_MOST};
 use crate::groups::{Tests, MOST_DIFFERENCES};
+use crate::heavy::{draw_shown, SHOWN_BITS};
 use crate::known::{EDGES, KNOWN_DAYS, SMALL_INPUTS, TEXTS};
 use crate::plan::broken;
 use crate::process::{compare_file, escaped, Feed};
@@ -15,11 +16,13 @@ use std::fs;
 
 const SOUND_DAYS: usize = 2500;
 const DAMAGED_TEXTS: usize = 4000;
+const HEAVY_DAYS: usize = 8;
 const PIECED_TEXTS: usize = 24;
 
 const SOUND_SEED: u64 = 1_000_000;
 const DAMAGED_SEED: u64 = 2_000_000;
 const PIECES_SEED: u64 = 3_000_000;
+const HEAVY_SEED: u64 = 8_000_000;
 
 /// Mode self holds this program's answers to what the papers say; here
 /// yard-plan is held to them.
@@ -44,6 +47,17 @@ fn sound_group(tests: &mut Tests) {
             broken(&format!("{day:?} is written as \"{}\"", escaped(&text)));
         }
         tests.compare(&format!("seed {seed}"), &text, Feed::whole(&text));
+    }
+}
+
+/// For each width days on which a sum of so many bits would show.
+fn heavy_group(tests: &mut Tests) {
+    tests.begin("heavy");
+    for bits in SHOWN_BITS {
+        for seed in (HEAVY_SEED..).take(HEAVY_DAYS) {
+            let text = write_day(&draw_shown(&mut Random(seed), bits));
+            tests.compare(&format!("{bits} bits, seed {seed}"), &text, Feed::whole(&text));
+        }
     }
 }
 
@@ -108,6 +122,7 @@ pub fn generated(program: &str) -> bool {
     let mut tests = Tests::new(program);
     known_group(&mut tests);
     sound_group(&mut tests);
+    heavy_group(&mut tests);
     damaged_group(&mut tests);
     special_group(&mut tests);
     pieces_group(&mut tests);
@@ -116,6 +131,7 @@ pub fn generated(program: &str) -> bool {
         println!("stopped after {MOST_DIFFERENCES} differences");
     } else {
         tests.require("sound", &[0, 8]);
+        tests.require("heavy", &[0]);
         tests.require("damaged", &[1, 2, 3, 4, 5, 6, 7]);
     }
     tests.print_counts();

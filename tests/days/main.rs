@@ -26,6 +26,7 @@ mod draft;
 mod draw;
 mod generated;
 mod groups;
+mod heavy;
 mod known;
 mod library;
 mod misreadings;

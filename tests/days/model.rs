@@ -58,24 +58,24 @@ pub struct Value {
     pub cost: usize,
 }
 
-/// Trains with at least one supplier in a later slot; each counts one.
-fn revisits(day: &Day, assignment: &[usize]) -> usize {
-    let positions = 0..assignment.len();
-    let later = |i: usize, j: usize| day.boxes[i][j] > 0 && assignment[j] > assignment[i];
-    positions.clone().filter(|&i| positions.clone().any(|j| later(i, j))).count()
+/// Whether train i has at least one supplier in a later slot.
+pub fn revisiting(day: &Day, assignment: &[usize], i: usize) -> bool {
+    (0..assignment.len()).any(|j| day.boxes[i][j] > 0 && assignment[j] > assignment[i])
 }
 
-/// Boxes between trains of different slots, earlier or later.
+/// Each revisiting train counts one, however many such suppliers it has.
+fn revisits(day: &Day, assignment: &[usize]) -> usize {
+    (0..assignment.len()).filter(|&i| revisiting(day, assignment, i)).count()
+}
+
+/// The boxes of train i from trains of other slots, earlier or later.
+pub fn split_moves_to(day: &Day, assignment: &[usize], i: usize) -> usize {
+    let apart = |j: &usize| assignment[*j] != assignment[i];
+    (0..assignment.len()).filter(apart).map(|j| day.boxes[i][j]).sum()
+}
+
 fn split_moves(day: &Day, assignment: &[usize]) -> usize {
-    let mut sum = 0;
-    for (i, slot) in assignment.iter().enumerate() {
-        for (j, other) in assignment.iter().enumerate() {
-            if slot != other {
-                sum += day.boxes[i][j];
-            }
-        }
-    }
-    sum
+    (0..assignment.len()).map(|i| split_moves_to(day, assignment, i)).sum()
 }
 
 pub fn value(day: &Day, assignment: &[usize]) -> Value {

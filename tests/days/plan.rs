@@ -33,26 +33,34 @@ fn step(day: &Day, assignment: &mut [usize]) -> bool {
     false
 }
 
-/// The first of the cheapest allowed assignments, each of which is tried.
-fn best(day: &Day) -> Option<(Vec<usize>, Value)> {
+/// The first of the cheapest allowed assignments by the given cost; each is
+/// tried.
+pub fn first_cheapest(day: &Day, cost: impl Fn(&[usize]) -> usize) -> Option<Vec<usize>> {
     let mut assignment: Vec<usize> = day.trains.iter().map(|train| train.first).collect();
-    let mut best: Option<(Vec<usize>, Value)> = None;
+    let mut best: Option<(Vec<usize>, usize)> = None;
     loop {
         if within_tracks(day, &assignment) {
-            let value = value(day, &assignment);
+            let cost = cost(&assignment);
             let better = match &best {
                 None => true,
-                Some((_, least)) if value.cost != least.cost => value.cost < least.cost,
+                Some((_, least)) if cost != *least => cost < *least,
                 Some((earlier, _)) => precedes(&assignment, earlier),
             };
             if better {
-                best = Some((assignment.clone(), value));
+                best = Some((assignment.clone(), cost));
             }
         }
         if !step(day, &mut assignment) {
-            return best;
+            return best.map(|(assignment, _)| assignment);
         }
     }
+}
+
+/// The best plan and its numbers.
+pub fn best(day: &Day) -> Option<(Vec<usize>, Value)> {
+    let assignment = first_cheapest(day, |assignment| value(day, assignment).cost)?;
+    let value = value(day, &assignment);
+    Some((assignment, value))
 }
 
 /// The overbooked interval with the smallest first slot and for it the

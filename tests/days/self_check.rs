@@ -1,7 +1,9 @@
 //! Mode self: this program checked on what 01 says, and on days made by hand.
 
 use crate::day_file::{read_day, write_day, Refusal};
+use crate::draw::{draw_day, Random, DAMAGED_MOST};
 use crate::groups::Tests;
+use crate::heavy::slot_costs;
 use crate::known::{
     day_text, Known, EDGES, KNOWN_DAYS, KNOWN_VALUES, P1_MOVES, P1_TRAINS, SMALL_INPUTS, TEXTS,
 };
@@ -9,7 +11,7 @@ use crate::model::{
     precedes, value, within_tracks, within_windows, Value, MOST_BYTES_ACCEPTED, MOST_BYTES_PRINTED,
     MOST_BYTES_READ,
 };
-use crate::plan::{answer, expected, Answer};
+use crate::plan::{answer, best, expected, Answer};
 use crate::self_baselines::check_baselines;
 use crate::special::{dearest_day, greatest_day, last_move, padded};
 
@@ -85,6 +87,22 @@ fn check_printing(tests: &mut Tests) {
     tests.check(overbooked == wanted, "refusal 9 is printed otherwise");
 }
 
+/// What the slots cost adds up to the cost; six trains that receive from six
+/// others at the greatest weights and boxes, all of them revisiting, are the
+/// dearest slot.
+fn check_slot_costs(tests: &mut Tests) {
+    let halves = [1, 1, 1, 1, 1, 1, 2, 2, 2, 2, 2, 2];
+    let costs = slot_costs(&greatest_day(), &halves);
+    tests.check(costs[..2] == [602_004_510, 601_611_300], "the dearest slot costs otherwise");
+    for seed in 0..200 {
+        let day = draw_day(&mut Random(seed), DAMAGED_MOST);
+        if let Some((assignment, value)) = best(&day) {
+            let sum: usize = slot_costs(&day, &assignment).iter().sum();
+            tests.check(sum == value.cost, &format!("seed {seed}: the slots cost {sum}"));
+        }
+    }
+}
+
 /// 12 trains pass and 13 don't; the greatest files have their lengths.
 fn check_sizes(tests: &mut Tests) {
     for (count, known) in [(12, Known::Best(&[1; 12], [0; 3])), (13, Known::Refused(3, 2))] {
@@ -113,6 +131,7 @@ pub fn check_self() -> bool {
         tests.check_text(name, text.as_bytes(), &known);
     }
     check_values(&mut tests);
+    check_slot_costs(&mut tests);
     check_printing(&mut tests);
     check_sizes(&mut tests);
     check_baselines(&mut tests);

@@ -1,20 +1,18 @@
 -- The best row, from the table. Where the table has a value for all positions, the row of the schedule that the choices give is the best
--- row, and there is no other (`plan-best`, `best-unique`). With small contributions it has one where a row is allowed (`row-some`): where
--- it has none, no row is (`no-row`).
+-- row, and there is no other (`plan-best`, `best-unique`). It has one where an allowed row is worth less than `inf`, since its value is no
+-- more than the worth of any allowed row (`optimum-lower`).
 -- Assumes nothing.
 use mathlib.Core.Path.{_≡_, sym, ap, _∙_}
 use mathlib.Core.List.{List}
-use Prim.Native.Nat.{ℕ, suc, _*_, _≤_, _<_}
+use Prim.Native.Nat.{ℕ, suc, _≤_, _<_}
 use native.Mathlib.Omega.{arith}
 use native.Mathlib.Nat.{le-antisymm}
-use lib.Dec.{T}
 use lib.ListN.{length}
 use Rattle.fold.specs.Listed.{length-listed, listed-at}
-use Rattle.sets.specs.Subset.{Sub}
 use Rattle.optimum.specs.Workspace.{at}
 use Rattle.sets.specs.Rest.{full}
 use Rattle.optimum.specs.Schedules.{Test, Contribution, value, ahead-ext, ahead-same}
-use Rattle.optimum.specs.Stages.{tab, follow, Cheapest, tab-cheapest, tab-lower, tab-some}
+use Rattle.optimum.specs.Stages.{tab, follow, Cheapest, tab-cheapest, tab-lower}
 use Rattle.optimum.specs.Rows.{stageSet, worth, Row, BestRow, setsOf, rowOf, row-schedule, row-value, same-sets, row-set, sets-row, schedule-row}
 
 -- ---- there is one best row
@@ -68,14 +66,3 @@ module _ (ok : Test) (w : Contribution) (inf n m : ℕ) where
               (λ j l. listed-at m (λ j. stageSet n other (suc j)) 0 j l)
               (cheapest .first (setsOf n m other) (long other) (row-schedule h) (row-value h w ∙ e ∙ plan-worth));
         }
-
-  -- ---- with small contributions it has one exactly where a row is allowed
-
-  module _ (x : ℕ) (small : (t r s : ℕ) → t ≤ m → r ≤ full n → Sub s r → T (ok t r s) → w t r s ≤ x) (fits : m * x < inf) where
-    pub row-some : (row : List ℕ) → Row ok n m row → optimum < inf
-    row-some row h =
-        tab-some ok w inf (suc m) (full n) x (λ t r s b. small t r s (omega arith)) m 1 (full n) (omega arith) (omega arith) fits
-        (setsOf n m row) (long row) (row-schedule h)
-
-    pub no-row : inf ≤ optimum → (row : List ℕ) → Row ok n m row → ⊥
-    no-row e row h = omega (arith, row-some row h)

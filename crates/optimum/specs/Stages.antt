@@ -1,7 +1,7 @@
 -- The table of staged choices, for any test `ok` and any contribution `w`. `tab k t r` is the least value of the schedules that use up r
 -- in k stages from stage t on, `inf` where none is below that; `choice k t r` is the largest first set of one of least value, and
 -- `follow k t r` the schedule that the choices give. `tab-cheapest`: it is one, no other has a smaller value, and of those of equal
--- value it comes first. With small contributions (`tab-none`, `tab-some`) inf says that there is no schedule.
+-- value it comes first. `tab-small`: where no contribution is above x, no value of k stages is above k times x, but for inf.
 -- Assumes nothing.
 use mathlib.Core.Path.{_≡_, refl, sym, ap, _∙_, subst}
 use mathlib.Core.Logic.{⊎-elim}
@@ -179,9 +179,3 @@ module _ (ok : Test) (w : Contribution) (inf : ℕ) where
     tab-small k t r b c l =
         let v = value-le t r (follow k t r) (omega (arith, follow-length k t r)) c (follow-schedule k t r l) in
         omega (arith, v, ap (λ n. n * x) (follow-length k t r), follow-value k t r l)
-
-    pub tab-some : (k t r : ℕ) → t + k ≤ top → r ≤ cap → k * x < inf → (p : List ℕ) → length p ≡ k → Schedule ok t r p → tab k t r < inf
-    tab-some k t r b c q p n h = omega (arith, tab-lower k t r p n h, value-le t r p (omega arith) c h, ap (λ n. n * x) n)
-
-    pub tab-none : (k t r : ℕ) → t + k ≤ top → r ≤ cap → k * x < inf → inf ≤ tab k t r → (p : List ℕ) → length p ≡ k → Schedule ok t r p → ⊥
-    tab-none k t r b c q e p n h = omega (arith, tab-some k t r b c q p n h)

@@ -1,5 +1,4 @@
--- How the planning call's parts come to its answer: the bounds of a sound day, the best row behind the solved table, and each of the
--- answers that the code gives.
+-- How the planning call's parts come to its answer: the best row behind the solved table, and each of the answers that the code gives.
 -- Assumes nothing.
 use mathlib.Core.Path.{_≡_, sym, ap, _∙_, subst}
 use mathlib.Core.Bool.{true, false}
@@ -15,31 +14,22 @@ use Rattle.model.specs.BestOf.{bestOf, best-is, none-is}
 use Rattle.model.specs.Overbooked.{Interval, firstOverbooked}
 use Rattle.day.specs.Answer.{Answer, gives, refuses}
 use Rattle.day.specs.Sound.{dayLimits, sound}
-use Rattle.day.specs.SoundLaws.{sound-is}
+use Rattle.day.specs.Most.{cost-most}
 use Rattle.day.specs.declared.Limits.{Limits}
 use Rattle.feasibility.specs.Verdict.{SomeRow, some-no-row}
 use Rattle.optimum.specs.Layers.{Solved}
 use Rattle.optimum.specs.Chosen.{rowIn, Leads}
 use Rattle.staging.specs.Tables.{servable, slotCost, noCost}
 use Rattle.staging.specs.Reachable.{Reachable}
-use Rattle.staging.specs.Bounds.{Limited, slots-fit}
 use Rattle.staging.specs.Solution.{solution-leads, solution-best, solution-some}
 use Rattle.planning.specs.Planning.{costWords, choiceWords, bestAnswer, suffices, planned, begins, placed, rowAfter, openWords, Stays}
-
--- ---- a sound day is within the bounds of the tables
-
-pub limited : (l : Limits) (y : Yard) → T (sound l y) → Limited y (l .weight) (l .trains) (l .boxes)
-limited l y s = let h = sound-is l y s in record { revisit = h .weights .0; split = h .weights .1; trains = h .trains .1; boxes = h .boxes }
 
 -- ---- the best row behind the solved table
 
 module _ (y : Yard) {N : ℕ} {a₀ c₀ a c : List ℕ} (s : T (sound dayLimits y)) (size : N ≡ 2 ^ y .trains) (some-row : SomeRow y)
     (solved : Solved (servable y) (slotCost y) noCost (Reachable N (y .tracks)) N (y .slots) 0 a₀ c₀ a c) where
   found : getD a (N - 1) 0 < noCost
-  found =
-      let h = sound-is dayLimits y s in
-      let short : y .slots ≤ 8 = h .slots .1 in
-      solution-some y size solved (limited dayLimits y s) (slots-fit (y .slots) (omega arith)) (some-row .0) (some-row .1)
+  found = solution-some y size solved (some-row .0) (some-row .1) (omega (arith, cost-most y (some-row .0) s))
 
   pub leads : Leads c (y .trains) (y .slots) N (rowIn c (y .trains) (y .slots) N)
   leads = solution-leads y size solved found

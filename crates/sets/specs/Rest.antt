@@ -7,6 +7,7 @@ use Prim.Native.Nat.{ℕ, zero, suc, _+_, _-_, _/_, _^_, _≤_, _<_}
 use native.Mathlib.Omega.{arith}
 use lib.Bits.{bitAnd, and-comm, and-mask}
 use lib.Dec.{T, eqb, eqb→eq}
+use lib.Pow.{pow-pos}
 use borrow.Author.Tests.{eq-eqb}
 use Rattle.fold.specs.Test.{same-test, both, both-of}
 use Rattle.fold.specs.Fold.{bit, sum, lowest, none-i, lowest-found}
@@ -47,6 +48,11 @@ pub has-full : (n i : ℕ) → i < n → has (full n) i ≡ true
 has-full n i l =
     let e : full n ≡ mask n (λ k. true) = omega (arith, mask-full n (λ k. true) (λ k m. refl)) in
     ap (λ m. has m i) e ∙ has-mask n (λ k. true) i l
+
+pub sub-full : (n r : ℕ) → r ≤ full n → Sub r (full n)
+sub-full n r l =
+    let every : mask n (λ k. true) ≡ full n = omega (arith, mask-full n (λ k. true) (λ k m. refl)) in
+    subst₂ Sub (mask-has n r (omega (arith, pow-pos n))) every (sub-mask n (has r) (λ k. true) (λ i m t. tt))
 
 pub sub-has : (n s r : ℕ) → Sub s r → r < 2 ^ n → (i : ℕ) → i < n → T (has s i) → T (has r i)
 sub-has n s r h b i l t =

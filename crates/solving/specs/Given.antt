@@ -1,9 +1,11 @@
--- What the functions over tables are given: tables that reach as far as the sets and slots asked for, and entries so small that every sum
--- of costs fits 64 bits and stays below `noCost`; room by tracks, and the windows of the slots left. And the cells that they find.
+-- What the functions over tables are given: tables that reach as far as the sets and slots asked for, and entries so small that what a slot
+-- costs fits 32 bits, so that every sum over slots fits 64 and stays below `noCost`; room by tracks, and the windows of the slots left. And
+-- the cells that they find.
 -- Assumes nothing.
 use mathlib.Core.List.{List}
-use Prim.Native.Nat.{ℕ, suc, _-_, _*_, _≤_, _<_}
+use Prim.Native.Nat.{ℕ, suc, _+_, _-_, _*_, _^_, _≤_, _<_}
 use native.Mathlib.Omega.{arith}
+use lib.Bits.{bitAnd}
 use lib.Count.{ones}
 use lib.Dec.{T}
 use lib.ListN.{length}
@@ -13,14 +15,6 @@ use Rattle.optimum.specs.Least.{Cell}
 use Rattle.optimum.specs.Stages.{cell, tab, choice}
 use Rattle.staging.specs.Tables.{barred, fromTables, costFromTables, noCost}
 
--- the revisits of a set of 12 trains cost at most this, 12 * 65535
-abbrev pub mostLate : ℕ
-mostLate = 786420
-
--- a set that may be served costs at most this: that, and the largest price that is not barred, 4294967294
-abbrev pub most : ℕ
-most = 4295753714
-
 -- tables for the sets below `size` and for the first `slots` slots
 pub record Given (size slots : ℕ) (need late price opens : List ℕ) : Type 0 where
   pub sets : (0 < size) × (size ≤ 4096)
@@ -29,12 +23,13 @@ pub record Given (size slots : ℕ) (need late price opens : List ℕ) : Type 0 
   pub lates : size ≤ length late
   pub prices : size ≤ length price
   pub opened : slots ≤ length opens
-  pub small : (x : ℕ) → x < size → at late x ≤ mostLate
+  -- what a set that may be served costs
+  pub fits : (r s : ℕ) → r < size → Sub s r → at price s < barred → at late (bitAnd s (at need (r - s))) + at price s < 2 ^ 32
 
 -- values that a cell of slot j + 1 reads where r remains: of what its choices leave, none, or what at most 8 slots come to
 pub record Rests (price opens cost : List ℕ) (j r : ℕ) : Type 0 where
   pub long : r < length cost
-  pub low : (s : ℕ) → Sub s r → T (fromTables price opens (suc j) r s) → at cost (r - s) < noCost → at cost (r - s) ≤ 8 * most
+  pub low : (s : ℕ) → Sub s r → T (fromTables price opens (suc j) r s) → at cost (r - s) < noCost → at cost (r - s) ≤ 8 * 2 ^ 32
 
 -- no set below `size` that is not barred has more trains than tracks
 pub record Room (size tracks : ℕ) (price : List ℕ) : Type 0 where
@@ -68,5 +63,5 @@ given-less x j g a b =
       lates = omega (arith, g .lates);
       prices = omega (arith, g .prices);
       opened = omega (arith, g .opened);
-      small = λ y l. g .small y (omega arith);
+      fits = λ r s l. g .fits r s (omega arith);
     }

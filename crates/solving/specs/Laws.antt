@@ -1,15 +1,15 @@
 -- The test and the contribution from the tables (staging's Tables.antt), as the loops use them: at stage j + 1 the test is that the price
--- is not barred and the set within the open set of index j; a contribution is small; which cells need no walk.
+-- is not barred and the set within the open set of index j; a contribution fits 32 bits; which cells need no walk.
 -- Assumes nothing.
 use mathlib.Core.Path.{_≡_, sym, ap, ap₂, _∙_, subst}
 use mathlib.Core.Bool.{true, not, _&&_, _||_}
 use mathlib.Core.Logic.{⊎-elim}
 use mathlib.Core.List.{List}
-use Prim.Native.Nat.{ℕ, zero, suc, _+_, _-_, _*_, _≤_, _<_}
+use Prim.Native.Nat.{ℕ, zero, suc, _+_, _-_, _*_, _^_, _≤_, _<_}
 use native.Mathlib.Nat.{mul-comm, mul-le-mul, eq-or-lt-of-le}
 use native.Mathlib.Omega.{arith}
 use lib.Arith.{digits-lt}
-use lib.Bits.{bitAnd, bitOr, and-le-l}
+use lib.Bits.{bitAnd, bitOr}
 use lib.Count.{ones}
 use lib.Dec.{T, ltb, eqb, ltb→lt, eqb→eq}
 use lib.ListN.{length}
@@ -22,7 +22,7 @@ use Rattle.optimum.specs.Direct.{last-whole, crowded-none, outside-none}
 use Rattle.optimum.specs.Layers.{Table}
 use Rattle.staging.specs.Tables.{barred, fromTables, costFromTables, noCost}
 use Rattle.staging.specs.Reachable.{Reachable, reachable-next}
-use Rattle.solving.specs.Given.{mostLate, most, Given, Rests, Room, Later, lastFrom}
+use Rattle.solving.specs.Given.{Given, Rests, Room, Later, lastFrom}
 
 -- ---- the test
 
@@ -48,11 +48,8 @@ serve-priced price opens t r s h = ltb→lt (at price s) barred (both-of (ltb (a
 -- ---- the contribution
 
 module _ {size slots : ℕ} {need late price opens : List ℕ} (g : Given size slots need late price opens) where
-  pub late-small : (s q : ℕ) → s < size → at late (bitAnd s q) ≤ mostLate
-  late-small s q l = g .small (bitAnd s q) (omega (arith, and-le-l s q))
-
-  pub cost-small : (t r s : ℕ) → s < size → T (fromTables price opens t r s) → costFromTables need late price t r s ≤ most
-  cost-small t r s l h = omega (arith, late-small s (at need (r - s)) l, serve-priced price opens t r s h)
+  pub served-fits : (t r s : ℕ) → r < size → Sub s r → T (fromTables price opens t r s) → costFromTables need late price t r s < 2 ^ 32
+  served-fits t r s l hs h = g .fits r s l hs (serve-priced price opens t r s h)
 
   -- where no set that may be served has more trains than tracks, a choice from what can remain leaves what can remain
   pub leaves-reachable : {tracks j r : ℕ} (s : ℕ) → Room size tracks price → r < size → Reachable size tracks j r → Sub s r
@@ -72,8 +69,8 @@ module _ {size slots : ℕ} {need late price opens : List ℕ} (g : Given size s
             let w = costFromTables need late price in
             let i : ℕ = r - s in
             let e : at a i ≡ tab ok w noCost (slots - suc j) (suc (suc j)) i = h .holds i (omega arith) (leaves-reachable s room (omega arith) here hs may) in
-            let b : tab ok w noCost (slots - suc j) (suc (suc j)) i ≤ (slots - suc j) * most =
-            tab-small ok w noCost (suc (suc slots)) i most (λ t r s d b hs m. cost-small t r s (omega (arith, sub-le s r hs)) m) (slots - suc j) (suc (suc j)) i
+            let b : tab ok w noCost (slots - suc j) (suc (suc j)) i ≤ (slots - suc j) * 2 ^ 32 =
+            tab-small ok w noCost (suc (suc slots)) i (2 ^ 32) (λ t r s d b hs m. omega (arith, served-fits t r s (omega arith) hs m)) (slots - suc j) (suc (suc j)) i
             (omega arith) (omega arith) (omega arith) in
             let eight : slots ≤ 8 = g .stages .1 in
             omega arith;
@@ -86,12 +83,17 @@ module _ {size slots : ℕ} {need late price opens : List ℕ} (g : Given size s
   -- ---- cells that are known without a walk
 
   -- the whole of r in the last slot, which leaves nothing
-  pub whole-cell : (j r : ℕ) → r < size → T (fromTables price opens (suc j) r r)
-      → (at late (bitAnd r (at need 0)) + at price r ≡ lastFrom need late price opens j r .value) × (r ≡ lastFrom need late price opens j r .set)
-  whole-cell j r l may =
-      let nothing : 0 ≡ r - r = omega arith in
-      let (v, s) = last-whole (fromTables price opens) (costFromTables need late price) noCost (suc j) r may (omega (arith, cost-small (suc j) r r l may)) in
-      (ap (λ x. at late (bitAnd r (at need x)) + at price r) nothing ∙ v, s)
+  module _ (j r : ℕ) (l : r < size) (may : T (fromTables price opens (suc j) r r)) where
+    nothing : r - r ≡ 0
+    nothing = omega arith
+
+    pub whole-fits : at late (bitAnd r (at need 0)) + at price r < 2 ^ 32
+    whole-fits = subst (λ x. at late (bitAnd r (at need x)) + at price r < 2 ^ 32) nothing (served-fits (suc j) r r l (sub-refl r) may)
+
+    pub whole-cell : (at late (bitAnd r (at need 0)) + at price r ≡ lastFrom need late price opens j r .value) × (r ≡ lastFrom need late price opens j r .set)
+    whole-cell =
+        let (v, s) = last-whole (fromTables price opens) (costFromTables need late price) noCost (suc j) r may (omega (arith, served-fits (suc j) r r l (sub-refl r) may)) in
+        (ap (λ x. at late (bitAnd r (at need x)) + at price r) (sym nothing) ∙ v, s)
 
   -- a set of more trains than the slots left have tracks for
   pub crowded-cell : {tracks : ℕ} (k t r : ℕ) → Room size tracks price → r < size → tracks * k < ones r

@@ -5,7 +5,9 @@
 // says; `trace` writes the row that the choices give. Over slices, for up to 12 trains and 8 slots. Assumes nothing.
 ghost use mathlib.Core.Path.{_≡_};
 ghost use Prim.Native.Nat.{_+_, _-_, _*_, _^_, _≤_, _<_};
+ghost use lib.Bits.{bitAnd};
 ghost use lib.ListN.{length, take, drop};
+ghost use Rattle.optimum.specs.Workspace.{at};
 ghost use Rattle.optimum.specs.Layers.{Every, Solved};
 ghost use Rattle.optimum.specs.Chosen.{rowIn, Leads};
 ghost use Rattle.staging.specs.Tables.{fromTables, costFromTables, noCost};
@@ -16,6 +18,15 @@ ghost use Rattle.solving.specs.Given.{Given, Rests, Room, Later, cellFro
 struct Pick {
     value: u64,
     set: u16,
+}
+
+// What a slot costs in which s is served and `rest` remains, where the split moves of s cost `splits`: its revisits and its split moves, both
+// weighed, summed in 32 bits.
+fn slot_cost(need: &[u16], late: &[u32], splits: u32, rest: usize, s: usize) -> u32
+    requires { ⌜ (rest < 4096) × (rest < length (now need)) × (s < 4096) × (s < length (now late)) × (at (now late) (bitAnd s (at (now need) rest)) + splits < 2 ^ 32) ⌝ }
+    ensures { λ r. ⌜ r ≡ at (now (late .entry)) (bitAnd s (at (now (need .entry)) rest)) + splits ⌝ }
+{
+    late[s & (need[rest] as usize)] + splits
 }
 
 // The cheapest set to serve in slot j + 1 where the set r of trains remains: its revisits and split moves, and what the rest costs after
@@ -43,7 +54,7 @@ fn cheapest(
             let rest = r - s;
             let after = cost[rest];
             if after < staging::NONE {
-                let total = after + ((late[s & (need[rest] as usize)] as u64) + (splits as u64));
+                let total = after + (slot_cost(need, late, splits, rest, s) as u64);
                 if total < least {
                     least = total;
                     chosen = s as u16;
@@ -68,7 +79,7 @@ fn whole(need: &[u16], late: &[u32], price: &[u32], opens: &[usize], j: usize, r
     let splits = price[r];
     if (splits < staging::BARRED) & (r & opens[j] == r) {
         return Pick {
-            value: (late[r & (need[0] as usize)] as u64) + (splits as u64),
+            value: slot_cost(need, late, splits, 0, r) as u64,
             set: r as u16,
         };
     }

@@ -13,10 +13,11 @@ use lib.ListN.{getD}
 use borrow.Author.Tests.{leb-true, lt-ltb, le-ltb}
 use Rattle.fold.specs.Test.{is-true, both-of}
 use Rattle.sets.specs.Subset.{Sub, subset, sub-le}
-use Rattle.model.specs.Model.{Yard, received}
+use Rattle.model.specs.Model.{Yard, received, cost}
 use Rattle.optimum.specs.Layers.{Solved}
 use Rattle.optimum.specs.Agree.{solved-agree}
 use Rattle.staging.specs.Tables.{needing, fromOutside, openIn, servable, slotCost, barred, fromTables, costFromTables}
+use Rattle.staging.specs.SlotInRow.{rowAround, slot-in-row, split-in-row}
 
 -- the tables of a day, filled for every set of its trains and every slot
 pub record DayTables (y : Yard) (need late price opens : List ℕ) : Type 0 where
@@ -24,9 +25,9 @@ pub record DayTables (y : Yard) (need late price opens : List ℕ) : Type 0 wher
   pub lates : (m : ℕ) → m < 2 ^ y .trains → getD late m 0 ≡ y .revisit * ones m
   pub prices : (s : ℕ) → s < 2 ^ y .trains
       → getD price s 0 ≡ cond (leb (ones s) (y .tracks)) (y .split * fromOutside (y .trains) (received y) s) barred
-  -- no set that has room is barred
-  pub under : (s : ℕ) → s < 2 ^ y .trains → ones s ≤ y .tracks → y .split * fromOutside (y .trains) (received y) s < barred
   pub windows : (j : ℕ) → j < y .slots → getD opens j 0 ≡ openIn (y .trains) (y .first) (y .last) (suc j)
+  -- no row costs as much as `barred`, the greatest number of 32 bits
+  pub cheap : (row : List ℕ) → cost y row < barred
 
 module _ {y : Yard} {need late price opens : List ℕ} (h : DayTables y need late price opens) where
   -- a set has room, or it has none
@@ -40,7 +41,7 @@ module _ {y : Yard} {need late price opens : List ℕ} (h : DayTables y need lat
   has-room s l = at (leb (ones s) (y .tracks)) refl
     where
       at : (b : Bool) → leb (ones s) (y .tracks) ≡ b → ltb (getD price s 0) barred ≡ b
-      at true e = lt-ltb (getD price s 0) barred (omega (arith, priced s l e, h .under s l (leb-true (ones s) (y .tracks) e)))
+      at true e = lt-ltb (getD price s 0) barred (omega (arith, priced s l e, split-in-row y s (omega arith), h .cheap (rowAround (y .trains) s s)))
       at false e = le-ltb (getD price s 0) barred (omega (arith, roomless s l e))
 
   -- no set that is not barred has more trains than tracks
@@ -55,16 +56,26 @@ module _ {y : Yard} {need late price opens : List ℕ} (h : DayTables y need lat
       ap₂ (λ c x. c && subset s x) (has-room s (omega (arith, sub-le s r hs))) (ap (λ i. getD opens i 0) first ∙ h .windows j b)
       ∙ and-comm (leb (ones s) (y .tracks)) (subset s o)
 
+  cost-reads : (t r s : ℕ) → r < 2 ^ y .trains → Sub s r → leb (ones s) (y .tracks) ≡ true → costFromTables need late price t r s ≡ slotCost y t r s
+  cost-reads t r s l hs room =
+      let later = needing (y .trains) (received y) (r - s) in
+      let within : s < 2 ^ y .trains = omega (arith, sub-le s r hs) in
+      ap₂ (λ x z. x + z)
+      (ap (λ x. getD late (bitAnd s x) 0) (h .needs (r - s) (omega arith)) ∙ h .lates (bitAnd s later) (omega (arith, and-le-l s later)))
+      (priced s within room)
+
   pub cost-agrees : (t r s : ℕ) → 1 ≤ t → t ≤ y .slots → r < 2 ^ y .trains → Sub s r → T (servable y t r s)
       → costFromTables need late price t r s ≡ slotCost y t r s
   cost-agrees t r s a b l hs may =
       let o = openIn (y .trains) (y .first) (y .last) t in
-      let room = is-true (leb (ones s) (y .tracks)) (both-of (subset s o) (leb (ones s) (y .tracks)) may .1) in
+      cost-reads t r s l hs (is-true (leb (ones s) (y .tracks)) (both-of (subset s o) (leb (ones s) (y .tracks)) may .1))
+
+  -- a set that is not barred costs less than `barred`, as a slot costs no more than a row
+  pub unbarred-cheap : (t r s : ℕ) → r < 2 ^ y .trains → Sub s r → getD price s 0 < barred → costFromTables need late price t r s < barred
+  unbarred-cheap t r s l hs m =
       let within : s < 2 ^ y .trains = omega (arith, sub-le s r hs) in
-      let later = needing (y .trains) (received y) (r - s) in
-      ap₂ (λ x z. x + z)
-      (ap (λ x. getD late (bitAnd s x) 0) (h .needs (r - s) (omega arith)) ∙ h .lates (bitAnd s later) (omega (arith, and-le-l s later)))
-      (priced s within room)
+      let room = sym (has-room s within) ∙ lt-ltb (getD price s 0) barred m in
+      omega (arith, cost-reads t r s l hs room, slot-in-row y t r s (omega arith) hs, h .cheap (rowAround (y .trains) r s))
 
   pub solved-day : {inf N : ℕ} {wanted : ℕ → ℕ → Type 0} {a₀ c₀ a c : List ℕ} → N ≡ 2 ^ y .trains
       → Solved (fromTables price opens) (costFromTables need late price) inf wanted N (y .slots) 0 a₀ c₀ a c

@@ -3,6 +3,6 @@ pub mod Reachable
 pub mod AllowedRows
 pub mod CostBySlot
 pub mod BestPlan
+pub mod SlotInRow
 pub mod FromTables
-pub mod Bounds
 pub mod Solution

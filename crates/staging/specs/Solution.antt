@@ -1,22 +1,21 @@
 -- Behind the loops over stages and sets, solved for what can remain of the day's trains: the value that stands for all trains is that of
--- the best plan, to which the choices lead; and it is below `inf` exactly where a row is allowed, if the costs of all slots together are.
+-- the best plan, to which the choices lead; and it is below `inf` where an allowed row costs less than that.
 -- Assumes nothing.
 use mathlib.Core.Path.{_≡_, ap, subst}
 use mathlib.Core.List.{List}
-use Prim.Native.Nat.{ℕ, _-_, _*_, _^_, _<_}
+use Prim.Native.Nat.{ℕ, _-_, _^_, _<_}
 use native.Mathlib.Omega.{arith}
 use lib.Dec.{T}
 use lib.ListN.{getD}
 use Rattle.sets.specs.Rest.{full}
-use Rattle.model.specs.Model.{Yard, allowed, Best}
+use Rattle.model.specs.Model.{Yard, cost, allowed, Best}
 use Rattle.optimum.specs.Layers.{Closed, Solved}
-use Rattle.optimum.specs.Best.{optimum, row-some}
+use Rattle.optimum.specs.Best.{optimum, optimum-lower}
 use Rattle.optimum.specs.Chosen.{rowIn, Leads, solved-value, solved-leads, solved-best}
 use Rattle.staging.specs.Tables.{servable, slotCost}
 use Rattle.staging.specs.Reachable.{Reachable, reachable-all, reachable-closed}
 use Rattle.staging.specs.AllowedRows.{allowed-row}
-use Rattle.staging.specs.BestPlan.{best-plan}
-use Rattle.staging.specs.Bounds.{Limited, slotBound, slot-cost-small}
+use Rattle.staging.specs.BestPlan.{row-cost, best-plan}
 
 module _ (y : Yard) {a₀ c₀ a c : List ℕ} {inf N : ℕ} (size : N ≡ 2 ^ y .trains)
     (solved : Solved (servable y) (slotCost y) inf (Reachable N (y .tracks)) N (y .slots) 0 a₀ c₀ a c) where
@@ -39,10 +38,7 @@ module _ (y : Yard) {a₀ c₀ a c : List ℕ} {inf N : ℕ} (size : N ≡ 2 ^ y
     pub solution-best : Best y (rowIn c (y .trains) (y .slots) N)
     solution-best = best-plan y (rowIn c (y .trains) (y .slots) N) (solved-best (y .trains) size closed top solved some)
 
-  pub solution-some : {W M B : ℕ} → Limited y W M B → y .slots * slotBound W M B < inf → (row : List ℕ) → T (allowed y row) → getD a (N - 1) 0 < inf
-  solution-some {W} {M} {B} limited fits row h =
-      omega (
-        arith,
-        value,
-        row-some (servable y) (slotCost y) inf (y .trains) (y .slots) (slotBound W M B) (slot-cost-small limited) fits row (allowed-row y row h),
-      )
+  pub solution-some : (row : List ℕ) → T (allowed y row) → cost y row < inf → getD a (N - 1) 0 < inf
+  solution-some row h fits =
+      let o = allowed-row y row h in
+      omega (arith, value, optimum-lower (servable y) (slotCost y) inf (y .trains) (y .slots) row o, row-cost y o)

@@ -2,8 +2,8 @@
 -- Assumes nothing.
 use mathlib.Core.Path.{_≡_, sym, ap, _∙_, subst}
 use mathlib.Core.List.{List}
-use Prim.Native.Nat.{ℕ, suc, _+_, _*_, _^_, _≤_, _<_}
-use native.Mathlib.Nat.{mul-le-mul, pow-suc}
+use Prim.Native.Nat.{ℕ, suc, _+_, _^_, _≤_, _<_}
+use native.Mathlib.Nat.{pow-suc}
 use native.Mathlib.Omega.{arith}
 use lib.ListN.{length, set, drop, getD}
 use lib.Pow.{pow-mono}
@@ -14,14 +14,11 @@ use Rattle.tables.specs.Entries.{withPair, priceOf, splitCost}
 use Rattle.tables.specs.Filled.{Filled, Added, filled-none, filled-next, filled-end, added-filled}
 use Rattle.tables.specs.Splits.{split-empty, split-pair, split-most}
 
--- ---- what stands in the table, and what it costs, is bounded
+-- ---- what stands in the table is bounded
 
-module _ (n : ℕ) (a : ℕ → ℕ → ℕ) (few : n ≤ 12) (byte : (i j : ℕ) → a i j ≤ 255) where
-  pub split-word : {N : ℕ} {b₀ b : List ℕ} → Filled (fromOutside n a) N b₀ b → (s : ℕ) → s < N → at b s ≤ 36720
-  split-word h s l = subst (λ x. x ≤ 36720) (sym (h .all s l)) (split-most n a s few byte)
-
-  pub price-most : (split s : ℕ) → split ≤ 65535 → split * fromOutside n a s ≤ 2406445200
-  price-most split s w = mul-le-mul w (split-most n a s few byte)
+pub split-word : (n : ℕ) (a : ℕ → ℕ → ℕ) → n ≤ 12 → ((i j : ℕ) → a i j ≤ 255) → {N : ℕ} {b₀ b : List ℕ} → Filled (fromOutside n a) N b₀ b
+    → (s : ℕ) → s < N → at b s ≤ 36720
+split-word n a few byte h s l = subst (λ x. x ≤ 36720) (sym (h .all s l)) (split-most n a s few byte)
 
 -- ---- the loops that fill the table
 

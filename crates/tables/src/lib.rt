@@ -6,7 +6,6 @@
 // Assumes nothing.
 ghost use mathlib.Core.Path.{_≡_};
 ghost use Prim.Native.Nat.{ℕ, suc, _+_, _*_, _^_, _≤_, _<_};
-ghost use lib.Count.{ones};
 ghost use lib.ListN.{length};
 ghost use Rattle.model.specs.Model.{cell};
 ghost use Rattle.model.specs.Cells.{InTable};
@@ -60,7 +59,7 @@ pub fn fill_needing(need: &mut [u16], boxes: &[u8], width: usize, n: usize)
 
 // To the entries of the sets below `size` adds those of the same sets with one train more.
 fn add_revisit(late: &mut [u32], size: usize, revisit: u32)
-    requires { ⌜ (revisit ≤ 65535) × (size ≤ 4096) × (size + size ≤ length (now late)) × ((m : ℕ) → m < size → at (now late) m ≤ 786420) ⌝ }
+    requires { ⌜ (size ≤ 4096) × (size + size ≤ length (now late)) × ((m : ℕ) → m < size → at (now late) m + revisit < 2 ^ 32) ⌝ }
     ensures { λ _. ⌜ Added (withRevisit (now (late .entry)) revisit) size size (now (late .entry)) (now (late .exit)) ⌝ }
 {
     for m in 0..size {
@@ -70,7 +69,7 @@ fn add_revisit(late: &mut [u32], size: usize, revisit: u32)
 
 pub fn fill_late(late: &mut [u32], revisit: u32, n: usize)
     requires { ⌜ (revisit ≤ 65535) × (n ≤ 12) × (2 ^ n ≤ length (now late)) ⌝ }
-    ensures { λ _. ⌜ Filled (lateCost revisit) (2 ^ n) (now (late .entry)) (now (late .exit)) × ((m : ℕ) → m < 2 ^ n → at (now (late .exit)) m ≤ 786420) ⌝ }
+    ensures { λ _. ⌜ Filled (lateCost revisit) (2 ^ n) (now (late .entry)) (now (late .exit)) ⌝ }
 {
     late[0] = 0;
     let mut size = 1;
@@ -143,7 +142,7 @@ fn fill_outside(price: &mut [u32], boxes: &[u8], width: usize, n: usize)
 
 // What the split moves of s cost, or `staging::BARRED`.
 fn price_of(moves: u32, s: usize, tracks: u32, split: u32) -> u32
-    requires { ⌜ (moves ≤ 36720) × (split ≤ 65535) ⌝ }
+    requires { ⌜ split * moves < 2 ^ 32 ⌝ }
     ensures { λ r. ⌜ r ≡ priceOf tracks split s moves ⌝ }
 {
     if usize::count_ones(s) <= tracks {
@@ -154,7 +153,7 @@ fn price_of(moves: u32, s: usize, tracks: u32, split: u32) -> u32
 
 // Puts the price of each set for its split moves.
 fn set_prices(price: &mut [u32], size: usize, tracks: u32, split: u32)
-    requires { ⌜ (split ≤ 65535) × (size ≤ 4096) × (size ≤ length (now price)) × ((s : ℕ) → s < size → at (now price) s ≤ 36720) ⌝ }
+    requires { ⌜ (size ≤ 4096) × (size ≤ length (now price)) × ((s : ℕ) → s < size → split * at (now price) s < 2 ^ 32) ⌝ }
     ensures { λ _. ⌜ Filled (λ s. priceOf tracks split s (at (now (price .entry)) s)) size (now (price .entry)) (now (price .exit)) ⌝ }
 {
     for s in 0..size {
@@ -171,8 +170,8 @@ pub fn fill_price(
     tracks: u32,
     split: u32,
 )
-    requires { ⌜ Given n width (now boxes) × (split ≤ 65535) × (size ≡ 2 ^ n) × (size ≤ length (now price)) ⌝ }
-    ensures { λ _. ⌜ Filled (splitCost n (cell width (now (boxes .entry))) tracks split) size (now (price .entry)) (now (price .exit)) × ((s : ℕ) → s < size → ones s ≤ tracks → split * fromOutside n (cell width (now (boxes .entry))) s ≤ 2406445200) ⌝ }
+    requires { ⌜ Given n width (now boxes) × (size ≡ 2 ^ n) × (size ≤ length (now price)) × ((s : ℕ) → s < size → split * fromOutside n (cell width (now boxes)) s < 2 ^ 32) ⌝ }
+    ensures { λ _. ⌜ Filled (splitCost n (cell width (now (boxes .entry))) tracks split) size (now (price .entry)) (now (price .exit)) ⌝ }
 {
     fill_outside(price, boxes, width, n);
     set_prices(price, size, tracks, split);

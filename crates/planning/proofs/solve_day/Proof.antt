@@ -8,7 +8,9 @@ use lib.Dec.{lit≤}
 use lib.Pow.{pow-pos}
 use Rattle.day.specs.Sound.{dayLimits, yard}
 use Rattle.day.specs.SoundLaws.{Sound, sound-is}
-use Rattle.staging.specs.FromTables.{DayTables, room-enough, solved-day}
+use Rattle.day.specs.Most.{cost-most}
+use Rattle.staging.specs.SlotInRow.{rowAround, split-in-row}
+use Rattle.staging.specs.FromTables.{DayTables, room-enough, unbarred-cheap, solved-day}
 use Rattle.tables.specs.Given.{Given}
 use borrow.Author.Needs.{needs}
 use Rattle.planning.proofs.solve_day.Statement.{statement}
@@ -37,10 +39,10 @@ tables f =
     let below : (m : ℕ) → m < 2 ^ start f .args .day .trains → m < start f .args .size = λ m h. omega (arith, start f .pre .1 .0) in
     record {
       needs = f .before .before .before .before .before .before .before .before .before .before .before .before .fill-needing .ensures .all;
-      lates = f .before .before .before .before .before .before .before .before .before .fill-late .ensures .0 .all;
-      prices = λ m h. f .before .before .before .before .before .fill-price .ensures .0 .all m (below m h);
-      under = λ m h o. omega (arith, f .before .before .before .before .before .fill-price .ensures .1 m (below m h) o);
+      lates = f .before .before .before .before .before .before .before .before .before .fill-late .ensures .all;
+      prices = λ m h. f .before .before .before .before .before .fill-price .ensures .all m (below m h);
       windows = f .fill-open .ensures .all;
+      cheap = λ row. omega (arith, cost-most (yard (start f .args .day)) row (start f .pre .0));
     }
 
 cast-slots : tie.Need-cast-slots
@@ -70,7 +72,14 @@ slice-aggregate-fill-price-2 : tie.Need-slice-aggregate-fill-price-2
 slice-aggregate-fill-price-2 c = search needs
 
 fill-price-requires : tie.Need-fill-price-requires
-fill-price-requires c κs = (given (c .before .before .before .before .before .before .before .before .before .before .before .before .before .before .before), least (c .before .before .before .before .before .before .before .before .before .before .before .before .before .before .before) .weights .1, c .before .before .before .before .before .before .before .before .before .before .before .before .before .before .before .pre .1 .0, small (c .before .before .before .before .before .before .before .before .before .before .before .before .before .before .before))
+fill-price-requires c κs =
+    let s = c .before .before .before .before .before .before .before .before .before .before .before .before .before .before .before in
+    let y = yard (s .args .day) in (
+      given s,
+      s .pre .1 .0,
+      small s,
+      λ x l. omega (arith, split-in-row y x (omega (arith, s .pre .1 .0)), cost-most y (rowAround (y .trains) x x) (s .pre .0)),
+    )
 
 slice-aggregate-fill-open : tie.Need-slice-aggregate-fill-open
 slice-aggregate-fill-open c = search needs
@@ -112,7 +121,7 @@ solve-requires c κs =
         lates = long _ (f .before .before .before .before .before .before .before .before .before .fill-late .kept .0);
         prices = long _ (f .before .before .before .before .before .fill-price .kept .0);
         opened = subst (λ k. s .args .day .slots ≤ k) (sym (f .fill-open .kept .0)) slots;
-        small = λ m h. f .before .before .before .before .before .before .before .before .before .fill-late .ensures .1 m (omega (arith, s .pre .1 .0));
+        fits = λ r x l hx m. omega (arith, unbarred-cheap (tables f) 1 r x (omega (arith, s .pre .1 .0)) hx m);
       },
       record { few = least s .tracks .1; enough = λ m h. room-enough (tables f) m (omega (arith, s .pre .1 .0)) },
       s .pre .1 .1 .0,

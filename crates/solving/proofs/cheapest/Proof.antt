@@ -1,7 +1,7 @@
 -- `solving::cheapest` meets its contract. The loop's invariant: `least` is the least that the subsets of `ready` from s up offer.
 -- Assumes nothing.
-use Prim.Native.Nat.{ℕ, suc, _-_, _≤_, _<_}
-use mathlib.Core.Path.{refl}
+use Prim.Native.Nat.{ℕ, suc, _+_, _-_, _^_, _≤_, _<_}
+use mathlib.Core.Path.{refl, ap}
 use mathlib.Core.Logic.{⊎-elim}
 use native.Mathlib.Omega.{arith}
 use borrow.Author.Needs.{needs}
@@ -12,8 +12,7 @@ use Rattle.sets.specs.Rest.{meet-left}
 use Rattle.optimum.specs.Workspace.{at}
 use Rattle.optimum.specs.Tried.{Tried, tried-start, tried-take, tried-keep, tried-pass, tried-is, tried-next, tried-meet}
 use Rattle.staging.specs.Tables.{barred, fromTables, costFromTables, noCost}
-use Rattle.solving.specs.Given.{mostLate}
-use Rattle.solving.specs.Laws.{may-serve, serve-open, serve-priced, late-small}
+use Rattle.solving.specs.Laws.{may-serve, serve-open, serve-priced}
 use Rattle.solving.proofs.cheapest.Statement.{statement}
 use Rattle.solving.proofs.cheapest.Tie as tie
 
@@ -25,14 +24,11 @@ abbrev μ-loop : tie.MeasureT-loop
 μ-loop cost need late price opens j r ready least₀ chosen₀ s₀ least chosen s = s
 
 abbrev from : tie.At-loop Inv-loop μ-loop → tie.Start Inv-loop μ-loop
-from a = a .before .before
+from a = a .before .before .before .before .before .before .before
 
--- the trains of r whose windows hold the slot, and those with a supplier in what s leaves
+-- the trains of r whose windows hold the slot
 abbrev ready : tie.At-loop Inv-loop μ-loop → ℕ
 ready a = bitAnd (from a .args .r) (at (from a .args .opens .now) (from a .args .j))
-
-abbrev needed : tie.At-loop Inv-loop μ-loop → ℕ
-needed a = at (from a .args .need .now) (from a .args .r - a .loop .s)
 
 module _ (a : tie.At-loop Inv-loop μ-loop) where
   in-r : a .loop .s ≤ from a .args .r
@@ -49,8 +45,10 @@ module _ (a : tie.At-loop Inv-loop μ-loop) where
       let o = at (z .opens .now) (z .j) in
       may-serve (z .price .now) (z .opens .now) (z .j) (z .r) (a .loop .s) l (sub-trans (a .loop .s) (ready a) o (a .loop .inv .0) (sub-and (z .r) o))
 
-  late : at (from a .args .late .now) (bitAnd (a .loop .s) (needed a)) ≤ mostLate
-  late = late-small (from a .pre .0) (a .loop .s) (needed a) (omega (arith, in-r))
+  -- then its cost fits 32 bits
+  fits : at (from a .args .price .now) (a .loop .s) < barred
+      → costFromTables (from a .args .need .now) (from a .args .late .now) (from a .args .price .now) (suc (from a .args .j)) (from a .args .r) (a .loop .s) < 2 ^ 32
+  fits l = from a .pre .0 .fits (from a .args .r) (a .loop .s) (omega arith) of-r l
 
 -- s is tried: its total is taken or kept out, or what it leaves has no schedule, or it is barred
 tried : (c : tie.Joined1 Inv-loop μ-loop)
@@ -62,8 +60,9 @@ tried c =
     let a = c .before .before in
     let inv = a .loop .inv in
     let z = from a .args in
-    ⊎-elim (λ x. tried-is (tried-take _ (inv .1) (inv .0) (may a (x .0 .taken)) (x .2 .taken) refl (x .5 .taken)) (x .6) (x .7))
-    (⊎-elim (λ x. tried-is (tried-keep _ (inv .1) (may a (x .0 .taken)) (x .2 .taken) refl (x .5 .left)) (x .6) (x .7))
+    let after = at (z .cost .now) (z .r - a .loop .s) in
+    ⊎-elim (λ x. tried-is (tried-take _ (inv .1) (inv .0) (may a (x .0 .taken)) (x .2 .taken) (ap (λ k. after + k) (x .3 .ensures)) (x .4 .taken)) (x .5) (x .6))
+    (⊎-elim (λ x. tried-is (tried-keep _ (inv .1) (may a (x .0 .taken)) (x .2 .taken) (ap (λ k. after + k) (x .3 .ensures)) (x .4 .left)) (x .5) (x .6))
     (⊎-elim (λ x. tried-is (tried-pass (inv .1) (λ o. x .2 .left)) (x .3) (x .4))
     (λ x.
     tried-is
@@ -72,10 +71,10 @@ tried c =
     (c .if1 .came)
 
 mul-ready : tie.Need-mul-ready Inv-loop μ-loop
-mul-ready c = omega (arith, c .pre .0 .stages .1)
+mul-ready c = omega (arith, c .before .before .before .before .before .pre .0 .stages .1)
 
 shared-slice-read-ready : tie.Need-shared-slice-read-ready Inv-loop μ-loop
-shared-slice-read-ready c = omega (arith, c .before .pre .0 .opened)
+shared-slice-read-ready c = omega (arith, c .before .before .before .before .before .before .pre .0 .opened)
 
 loop-holds : tie.Need-loop-holds Inv-loop μ-loop
 loop-holds c = (sub-refl _, tried-start _ _ _ _ _ _ _)
@@ -95,38 +94,24 @@ mul-after c = omega (arith, from (c .before .before) .pre .0 .sets .1)
 shared-slice-read-after : tie.Need-shared-slice-read-after Inv-loop μ-loop
 shared-slice-read-after c = omega (arith, from (c .before .before .before) .pre .1 .long)
 
-mul-total : tie.Need-mul-total Inv-loop μ-loop
-mul-total c = let a = c .before .before .before .before in omega (arith, in-r a, from a .pre .0 .sets .1)
-
-shared-slice-read-total : tie.Need-shared-slice-read-total Inv-loop μ-loop
-shared-slice-read-total c = let a = c .before .before .before .before .before in omega (arith, in-r a, from a .pre .0 .needs)
+slot-cost-requires : tie.Need-slot-cost-requires Inv-loop μ-loop
+slot-cost-requires c κs =
+    let a = c .before .before .before .before in
+    let g = from a .pre .0 in
+    (omega (arith, g .sets .1), omega (arith, g .needs), omega (arith, in-r a, g .sets .1), omega (arith, in-r a, g .lates), fits a (c .before .before .if1 .taken))
 
 cast-total : tie.Need-cast-total Inv-loop μ-loop
-cast-total c = let a = c .before .before .before .before .before in omega (arith, c .shared-slice-known4 .given (from a .args .r - a .loop .s))
-
-mul-total-2 : tie.Need-mul-total-2 Inv-loop μ-loop
-mul-total-2 c = let a = c .before .before .before .before .before in omega (arith, in-r a, from a .pre .0 .sets .1, and-le-l (a .loop .s) (needed a))
-
-shared-slice-read-total-2 : tie.Need-shared-slice-read-total-2 Inv-loop μ-loop
-shared-slice-read-total-2 c = let a = c .before .before .before .before .before .before in omega (arith, in-r a, from a .pre .0 .lates, and-le-l (a .loop .s) (needed a))
-
-cast-total-2 : tie.Need-cast-total-2 Inv-loop μ-loop
-cast-total-2 c = let a = c .before .before .before .before .before .before in omega (arith, c .shared-slice-known5 .given (bitAnd (a .loop .s) (needed a)))
-
-cast-total-3 : tie.Need-cast-total-3 Inv-loop μ-loop
-cast-total-3 c = search needs
+cast-total c = search needs
 
 add-total : tie.Need-add-total Inv-loop μ-loop
-add-total c = let a = c .before .before .before .before .before .before in omega (arith, late a, c .before .before .before .before .if1 .taken)
-
-add-total-2 : tie.Need-add-total-2 Inv-loop μ-loop
-add-total-2 c =
-    let a = c .before .before .before .before .before .before in
-    let after = from a .pre .1 .low (a .loop .s) (of-r a) (may a (c .before .before .before .before .if1 .taken)) (c .before .before .if2 .taken) in
-    omega (arith, late a, c .before .before .before .before .if1 .taken, after)
+add-total c =
+    let a = c .before .before .before .before .before in
+    let open-price = c .before .before .before .if1 .taken in
+    let after = from a .pre .1 .low (a .loop .s) (of-r a) (may a open-price) (c .before .if2 .taken) in
+    omega (arith, c .slot-cost .ensures, fits a open-price, after)
 
 cast-chosen : tie.Need-cast-chosen Inv-loop μ-loop
-cast-chosen c = let a = c .before .before .before .before .before .before .before in omega (arith, in-r a, from a .pre .0 .sets .1)
+cast-chosen c = let a = c .before .before .before .before .before .before in omega (arith, in-r a, from a .pre .0 .sets .1)
 
 returns : tie.Need-returns Inv-loop μ-loop
 returns c =
@@ -160,15 +145,9 @@ cheapest-spec =
     sub-rest
     mul-after
     shared-slice-read-after
-    mul-total
-    shared-slice-read-total
+    slot-cost-requires
     cast-total
-    mul-total-2
-    shared-slice-read-total-2
-    cast-total-2
-    cast-total-3
     add-total
-    add-total-2
     cast-chosen
     returns
     sub-s

@@ -29,7 +29,7 @@ add-late c =
     let s = c .before .before .before in
     let l = c .before .before .loop in
     let same = l .inv .1 .old (l .m) (c .before .loop-test .taken) in
-    let most = s .pre .3 (l .m) (c .before .loop-test .taken) in
+    let fits = s .pre .2 (l .m) (c .before .loop-test .taken) in
     omega arith
 
 add-late-2 : tie.Need-add-late-2 Inv-loop μ-loop

@@ -8,7 +8,7 @@ use native.Mathlib.Omega.{arith}
 use native.Mathlib.Numerals.{add-one}
 use native.Mathlib.Nat.{pow-suc}
 use lib.ListN.{length, set}
-use lib.Pow.{pow-pos, pow-mono}
+use lib.Pow.{pow-pos}
 use Rattle.fold.specs.Fold.{at-end}
 use Rattle.tables.specs.Entries.{lateCost}
 use Rattle.tables.specs.Filled.{Filled, filled-end, filled-here, filled-since}
@@ -47,7 +47,6 @@ add-revisit-requires c κs =
     let l = c .before .before .loop in
     let s = c .before .before .before .before in
     let room = fits (c .before) in (
-      s .pre .0,
       room .0,
       room .1,
       λ m q. let is = l .inv .2 .all m q in let most = late-most (s .args .revisit) m (s .pre .0) (omega arith) in omega arith,
@@ -76,9 +75,7 @@ returns c =
     let s = c .before .before .before in
     let l = c .before .loop in
     let end = l .inv .1 ∙ at-end (λ k. 2 ^ k) (l .counter) (s .args .n) (l .inv .0) (c .loop-test .left) in
-    let filled = filled-since (first s) (pow-pos (s .args .n)) (filled-end (2 ^ s .args .n) (l .inv .2) (omega arith) (omega arith)) in
-    let few : 2 ^ s .args .n ≤ 4096 = pow-mono {i = s .args .n} {j = 12} (s .pre .1) in
-    (filled, λ m q. let is = filled .all m q in let most = late-most (s .args .revisit) m (s .pre .0) (omega arith) in omega arith)
+    filled-since (first s) (pow-pos (s .args .n)) (filled-end (2 ^ s .args .n) (l .inv .2) (omega arith) (omega arith))
 
 pub fill-late-spec : {M : Type 1} → statement M
 fill-late-spec =

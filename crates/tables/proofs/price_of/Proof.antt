@@ -1,14 +1,14 @@
--- `tables::price_of` meets its contract. By the two cases of the test of the tracks; the product is at most 65535 times 36720.
+-- `tables::price_of` meets its contract. By the two cases of the test of the tracks.
 -- Assumes nothing.
 use native.Mathlib.Omega.{arith}
-use native.Mathlib.Nat.{mul-le-mul}
+use borrow.Author.Needs.{needs}
 use lib.Count.{ones}
 use borrow.Author.Tests.{le-leb, lt-leb}
 use Rattle.tables.proofs.price_of.Statement.{statement}
 use Rattle.tables.proofs.price_of.Tie as tie
 
 mul-result : tie.Need-mul-result
-mul-result c = let most = mul-le-mul (c .before .pre .1) (c .before .pre .0) in omega arith
+mul-result c = search needs
 
 returns : tie.Need-returns
 returns c = rw (le-leb (ones (c .before .args .s)) (c .before .args .tracks) (omega arith))

@@ -1,6 +1,6 @@
 -- `tables::set_prices` meets its contract. The loop's invariant: the sets passed have their prices, the others still their split moves.
 -- Assumes nothing.
-use Prim.Native.Nat.{_≤_, _-_}
+use Prim.Native.Nat.{_≤_, _<_, _-_, _*_, _^_}
 use mathlib.Core.Path.{sym, ap, _∙_, subst}
 use borrow.Author.Needs.{needs}
 use native.Mathlib.Omega.{arith}
@@ -30,7 +30,7 @@ price-of-requires : tie.Need-price-of-requires Inv-loop μ-loop
 price-of-requires c κs =
     let s = c .before .before .before .before in
     let l = c .before .before .loop in
-    (subst (λ x. x ≤ 36720) (sym (unread (l .inv .1 .kept))) (s .pre .3 (l .s) (omega arith)), s .pre .0)
+    subst (λ x. s .args .split * x < 2 ^ 32) (sym (unread (l .inv .1 .kept))) (s .pre .2 (l .s) (omega arith))
 
 mul-price : tie.Need-mul-price Inv-loop μ-loop
 mul-price c = search needs
