@@ -87,7 +87,7 @@ static int first_overbooked(const struct day *d, struct interval *found)
     return 0;
 }
 
-/* ---- the tables, as crates/tables */
+/* ---- the tables, as crates/tables and crates/prices */
 
 static void fill_needing(uint16_t *need, const uint8_t *boxes, size_t n)
 {
@@ -154,7 +154,7 @@ static void fill_open(uint64_t *opens, const struct day *d)
     }
 }
 
-/* ---- the stages, as crates/solving */
+/* ---- the stages, as crates/cells, crates/solving and crates/tracing */
 
 /* A cell of the table: the least value, and the set that is served for it. */
 struct pick {

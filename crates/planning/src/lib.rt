@@ -59,7 +59,7 @@ fn solve_day(day: Day, cost: &mut [u64], choice: &mut [u16], size: usize)
     let mut opens = [0usize; 8];
     tables::fill_needing(&mut need, &boxes, 12, n);
     tables::fill_late(&mut late, day.revisit, n);
-    tables::fill_price(&mut price, &boxes, 12, n, size, day.tracks, day.split);
+    prices::fill_price(&mut price, &boxes, 12, n, size, day.tracks, day.split);
     tables::fill_open(&mut opens, &first, &last, n, slots);
     solving::solve(
         cost,
@@ -80,7 +80,7 @@ fn place_trains(day: Day, cost: &mut [u64], choice: &mut [u16], row: &mut [u8], 
     ensures { λ _. ⌜ Placed (yard day) size (now (cost .entry)) (now (choice .entry)) (now (row .entry)) (now (cost .exit)) (now (choice .exit)) (now (row .exit)) ⌝ }
 {
     solve_day(day, cost, choice, size);
-    solving::trace(choice, row, day.trains, day.slots as usize, size);
+    tracing::trace(choice, row, day.trains, day.slots as usize, size);
 }
 
 // The plan of a sound day, or the first overbooked interval.

@@ -1,8 +1,8 @@
--- The test and the contribution from the tables (staging's Tables.antt), as the loops use them: at stage j + 1 the test is that the price
--- is not barred and the set within the open set of index j; a contribution fits 32 bits; which cells need no walk.
+-- What the loops over sets use: which sets a choice leaves, what a cell reads, where its choice stands, which cells need no walk, and the
+-- trains that may still be served.
 -- Assumes nothing.
-use mathlib.Core.Path.{_≡_, sym, ap, ap₂, _∙_, subst}
-use mathlib.Core.Bool.{true, not, _&&_, _||_}
+use mathlib.Core.Path.{_≡_, subst}
+use mathlib.Core.Bool.{true, not, _||_}
 use mathlib.Core.Logic.{⊎-elim}
 use mathlib.Core.List.{List}
 use Prim.Native.Nat.{ℕ, zero, suc, _+_, _-_, _*_, _^_, _≤_, _<_}
@@ -11,46 +11,22 @@ use native.Mathlib.Omega.{arith}
 use lib.Arith.{digits-lt}
 use lib.Bits.{bitAnd, bitOr}
 use lib.Count.{ones}
-use lib.Dec.{T, ltb, eqb, ltb→lt, eqb→eq}
+use lib.Dec.{T, ltb, eqb, ltb→lt}
 use lib.ListN.{length}
-use borrow.Author.Tests.{lt-ltb, eq-eqb}
-use Rattle.fold.specs.Test.{of-true, both-of, either-of, not-of}
-use Rattle.sets.specs.Subset.{Sub, subset, sub-le, sub-refl, sub-trans, sub-or-left, sub-or-right}
+use borrow.Author.Tests.{eq-eqb}
+use Rattle.fold.specs.Test.{of-true, either-of, not-of}
+use Rattle.sets.specs.Subset.{Sub, sub-le, sub-refl, sub-trans, sub-or-left, sub-or-right}
 use Rattle.optimum.specs.Workspace.{at}
 use Rattle.optimum.specs.Stages.{tab, choice, tab-small}
-use Rattle.optimum.specs.Direct.{last-whole, crowded-none, outside-none}
+use Rattle.optimum.specs.Direct.{crowded-none, outside-none}
 use Rattle.optimum.specs.Layers.{Table}
-use Rattle.staging.specs.Tables.{barred, fromTables, costFromTables, noCost}
+use Rattle.staging.specs.Tables.{fromTables, costFromTables, noCost}
 use Rattle.staging.specs.Reachable.{Reachable, reachable-next}
-use Rattle.solving.specs.Given.{Given, Rests, Room, Later, lastFrom}
-
--- ---- the test
-
-module _ (price opens : List ℕ) (j r s : ℕ) where
-  index : suc j - 1 ≡ j
-  index = omega arith
-
-  pub test-reads : fromTables price opens (suc j) r s ≡ (ltb (at price s) barred && subset s (at opens j))
-  test-reads = ap (λ x. ltb (at price s) barred && subset s (at opens x)) index
-
-  pub may-serve : at price s < barred → Sub s (at opens j) → T (fromTables price opens (suc j) r s)
-  may-serve l h =
-      subst T (sym (ap₂ _&&_ (lt-ltb (at price s) barred l) (eq-eqb (bitAnd s (at opens (suc j - 1))) s (ap (λ x. bitAnd s (at opens x)) index ∙ h)))) tt
-
-  pub serve-open : T (fromTables price opens (suc j) r s) → Sub s (at opens j)
-  serve-open h =
-      ap (λ x. bitAnd s (at opens x)) (sym index)
-      ∙ eqb→eq (bitAnd s (at opens (suc j - 1))) s (both-of (ltb (at price s) barred) (subset s (at opens (suc j - 1))) h .1)
-
-pub serve-priced : (price opens : List ℕ) (t r s : ℕ) → T (fromTables price opens t r s) → at price s < barred
-serve-priced price opens t r s h = ltb→lt (at price s) barred (both-of (ltb (at price s) barred) (subset s (at opens (t - 1))) h .0)
-
--- ---- the contribution
+use Rattle.cells.specs.Given.{Given, Rests}
+use Rattle.cells.specs.Laws.{serve-open, serve-priced, served-fits}
+use Rattle.solving.specs.Given.{Room, Later}
 
 module _ {size slots : ℕ} {need late price opens : List ℕ} (g : Given size slots need late price opens) where
-  pub served-fits : (t r s : ℕ) → r < size → Sub s r → T (fromTables price opens t r s) → costFromTables need late price t r s < 2 ^ 32
-  served-fits t r s l hs h = g .fits r s l hs (serve-priced price opens t r s h)
-
   -- where no set that may be served has more trains than tracks, a choice from what can remain leaves what can remain
   pub leaves-reachable : {tracks j r : ℕ} (s : ℕ) → Room size tracks price → r < size → Reachable size tracks j r → Sub s r
       → T (fromTables price opens (suc j) r s) → Reachable size tracks (suc j) (r - s)
@@ -70,7 +46,7 @@ module _ {size slots : ℕ} {need late price opens : List ℕ} (g : Given size s
             let i : ℕ = r - s in
             let e : at a i ≡ tab ok w noCost (slots - suc j) (suc (suc j)) i = h .holds i (omega arith) (leaves-reachable s room (omega arith) here hs may) in
             let b : tab ok w noCost (slots - suc j) (suc (suc j)) i ≤ (slots - suc j) * 2 ^ 32 =
-            tab-small ok w noCost (suc (suc slots)) i (2 ^ 32) (λ t r s d b hs m. omega (arith, served-fits t r s (omega arith) hs m)) (slots - suc j) (suc (suc j)) i
+            tab-small ok w noCost (suc (suc slots)) i (2 ^ 32) (λ t r s d b hs m. omega (arith, served-fits g t r s (omega arith) hs m)) (slots - suc j) (suc (suc j)) i
             (omega arith) (omega arith) (omega arith) in
             let eight : slots ≤ 8 = g .stages .1 in
             omega arith;
@@ -81,19 +57,6 @@ module _ {size slots : ℕ} {need late price opens : List ℕ} (g : Given size s
   choice-place j r a b = (digits-lt a b, mul-le-mul (g .stages .1) (g .sets .1))
 
   -- ---- cells that are known without a walk
-
-  -- the whole of r in the last slot, which leaves nothing
-  module _ (j r : ℕ) (l : r < size) (may : T (fromTables price opens (suc j) r r)) where
-    nothing : r - r ≡ 0
-    nothing = omega arith
-
-    pub whole-fits : at late (bitAnd r (at need 0)) + at price r < 2 ^ 32
-    whole-fits = subst (λ x. at late (bitAnd r (at need x)) + at price r < 2 ^ 32) nothing (served-fits (suc j) r r l (sub-refl r) may)
-
-    pub whole-cell : (at late (bitAnd r (at need 0)) + at price r ≡ lastFrom need late price opens j r .value) × (r ≡ lastFrom need late price opens j r .set)
-    whole-cell =
-        let (v, s) = last-whole (fromTables price opens) (costFromTables need late price) noCost (suc j) r may (omega (arith, served-fits (suc j) r r l (sub-refl r) may)) in
-        (ap (λ x. at late (bitAnd r (at need x)) + at price r) (sym nothing) ∙ v, s)
 
   -- a set of more trains than the slots left have tracks for
   pub crowded-cell : {tracks : ℕ} (k t r : ℕ) → Room size tracks price → r < size → tracks * k < ones r

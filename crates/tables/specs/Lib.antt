@@ -3,5 +3,3 @@ pub mod Entries
 pub mod Filled
 pub mod Needing
 pub mod Costs
-pub mod Splits
-pub mod Prices

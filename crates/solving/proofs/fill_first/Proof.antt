@@ -8,7 +8,7 @@ use Rattle.optimum.specs.Stages.{tab, choice}
 use Rattle.optimum.specs.Layers.{Table, table-cell, stage-start, stage-next, stage-pass, stage-end, solved-reads}
 use Rattle.staging.specs.Tables.{fromTables, costFromTables, noCost}
 use Rattle.staging.specs.Reachable.{Reachable, reachable-all}
-use Rattle.solving.specs.Given.{given-less}
+use Rattle.cells.specs.Given.{given-less}
 use Rattle.solving.specs.Laws.{leaves-reachable, table-rests, choice-place}
 use Rattle.solving.proofs.fill_first.Statement.{statement}
 use Rattle.solving.proofs.fill_first.Tie as tie

@@ -7,7 +7,7 @@ use lib.ListN.{length}
 use Rattle.optimum.specs.Stages.{tab, choice}
 use Rattle.optimum.specs.Layers.{Every, Stage, stage-last, stage-next, stage-end}
 use Rattle.staging.specs.Tables.{fromTables, costFromTables, noCost}
-use Rattle.solving.specs.Given.{given-less}
+use Rattle.cells.specs.Given.{given-less}
 use Rattle.solving.specs.Laws.{choice-place}
 use Rattle.solving.proofs.fill_last.Statement.{statement}
 use Rattle.solving.proofs.fill_last.Tie as tie

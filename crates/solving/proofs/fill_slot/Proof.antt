@@ -12,7 +12,7 @@ use Rattle.optimum.specs.Stages.{tab, choice}
 use Rattle.optimum.specs.Layers.{Table, Stage, table-cell, table-put, table-less, stage-start, stage-next, stage-pass, stage-end, solved-reads}
 use Rattle.staging.specs.Tables.{fromTables, costFromTables, noCost}
 use Rattle.staging.specs.Reachable.{Reachable}
-use Rattle.solving.specs.Given.{given-less}
+use Rattle.cells.specs.Given.{given-less}
 use Rattle.solving.specs.Laws.{leaves-reachable, table-rests, choice-place, hopeless-cell}
 use Rattle.solving.proofs.fill_slot.Statement.{statement}
 use Rattle.solving.proofs.fill_slot.Tie as tie

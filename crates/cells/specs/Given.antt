@@ -1,0 +1,56 @@
+-- What the functions over tables are given: tables that reach as far as the sets and slots asked for, and entries so small that what a slot
+-- costs fits 32 bits, so that every sum over slots fits 64 and stays below `noCost`. And the cells that they find.
+-- Assumes nothing.
+use mathlib.Core.List.{List}
+use Prim.Native.Nat.{ℕ, suc, _+_, _-_, _*_, _^_, _≤_, _<_}
+use native.Mathlib.Omega.{arith}
+use lib.Bits.{bitAnd}
+use lib.Dec.{T}
+use lib.ListN.{length}
+use Rattle.sets.specs.Subset.{Sub}
+use Rattle.optimum.specs.Workspace.{at}
+use Rattle.optimum.specs.Least.{Cell}
+use Rattle.optimum.specs.Stages.{cell, tab, choice}
+use Rattle.staging.specs.Tables.{barred, fromTables, costFromTables, noCost}
+
+-- tables for the sets below `size` and for the first `slots` slots
+pub record Given (size slots : ℕ) (need late price opens : List ℕ) : Type 0 where
+  pub sets : (0 < size) × (size ≤ 4096)
+  pub stages : (0 < slots) × (slots ≤ 8)
+  pub needs : size ≤ length need
+  pub lates : size ≤ length late
+  pub prices : size ≤ length price
+  pub opened : slots ≤ length opens
+  -- what a slot costs in which a set is served that is not barred
+  pub fits : (r s : ℕ) → r < size → Sub s r → at price s < barred → at late (bitAnd s (at need (r - s))) + at price s < 2 ^ 32
+
+-- values that a cell of slot j + 1 reads where r remains: of what its choices leave, none, or what at most 8 slots come to
+pub record Rests (price opens cost : List ℕ) (j r : ℕ) : Type 0 where
+  pub long : r < length cost
+  pub low : (s : ℕ) → Sub s r → T (fromTables price opens (suc j) r s) → at cost (r - s) < noCost → at cost (r - s) ≤ 8 * 2 ^ 32
+
+-- the cell of stage j + 1, where r remains and `cost` holds the values of the next stage
+abbrev pub cellFrom : List ℕ → List ℕ → List ℕ → List ℕ → List ℕ → ℕ → ℕ → Cell
+cellFrom need late price opens cost j r = cell (fromTables price opens) (costFromTables need late price) noCost (at cost) (suc j) r
+
+-- the cell of stage j + 1, where r remains and no stage is left behind it
+abbrev pub lastFrom : List ℕ → List ℕ → List ℕ → List ℕ → ℕ → ℕ → Cell
+lastFrom need late price opens j r =
+    record {
+      value = tab (fromTables price opens) (costFromTables need late price) noCost 1 (suc j) r;
+      set = choice (fromTables price opens) (costFromTables need late price) noCost 1 (suc j) r;
+    }
+
+-- what is given for more sets and slots is given for fewer
+pub given-less : {size slots : ℕ} {need late price opens : List ℕ} (x j : ℕ) → Given size slots need late price opens → (0 < x) × (x ≤ size) → (0 < j) × (j ≤ slots)
+    → Given x j need late price opens
+given-less x j g a b =
+    record {
+      sets = (a .0, omega (arith, g .sets));
+      stages = (b .0, omega (arith, g .stages));
+      needs = omega (arith, g .needs);
+      lates = omega (arith, g .lates);
+      prices = omega (arith, g .prices);
+      opened = omega (arith, g .opened);
+      fits = λ r s l. g .fits r s (omega arith);
+    }
