@@ -13,6 +13,11 @@ use Rattle.optimum.specs.Least.{Cell}
 use Rattle.optimum.specs.Stages.{cell, tab, choice}
 use Rattle.staging.specs.Tables.{barred, fromTables, costFromTables, noCost}
 
+-- what a slot costs in which s is served and `rest` remains, where the split moves of s cost `splits`: with the price of s, and what s leaves
+-- of r, staging's `costFromTables`
+abbrev pub slotSum : List ℕ → List ℕ → ℕ → ℕ → ℕ → ℕ
+slotSum need late splits rest s = at late (bitAnd s (at need rest)) + splits
+
 -- tables for the sets below `size` and for the first `slots` slots
 pub record Given (size slots : ℕ) (need late price opens : List ℕ) : Type 0 where
   pub sets : (0 < size) × (size ≤ 4096)
@@ -22,7 +27,7 @@ pub record Given (size slots : ℕ) (need late price opens : List ℕ) : Type 0 
   pub prices : size ≤ length price
   pub opened : slots ≤ length opens
   -- what a slot costs in which a set is served that is not barred
-  pub fits : (r s : ℕ) → r < size → Sub s r → at price s < barred → at late (bitAnd s (at need (r - s))) + at price s < 2 ^ 32
+  pub fits : (t r s : ℕ) → r < size → Sub s r → at price s < barred → costFromTables need late price t r s < 2 ^ 32
 
 -- values that a cell of slot j + 1 reads where r remains: of what its choices leave, none, or what at most 8 slots come to
 pub record Rests (price opens cost : List ℕ) (j r : ℕ) : Type 0 where
@@ -52,5 +57,5 @@ given-less x j g a b =
       lates = omega (arith, g .lates);
       prices = omega (arith, g .prices);
       opened = omega (arith, g .opened);
-      fits = λ r s l. g .fits r s (omega arith);
+      fits = λ t r s l. g .fits t r s (omega arith);
     }

@@ -4,7 +4,7 @@
 use mathlib.Core.Path.{_≡_, sym, ap, ap₂, _∙_, subst}
 use mathlib.Core.Bool.{_&&_}
 use mathlib.Core.List.{List}
-use Prim.Native.Nat.{ℕ, suc, _+_, _-_, _^_, _<_}
+use Prim.Native.Nat.{ℕ, suc, _-_, _^_, _<_}
 use native.Mathlib.Omega.{arith}
 use lib.Bits.{bitAnd}
 use lib.Dec.{T, ltb, ltb→lt, eqb→eq}
@@ -14,7 +14,7 @@ use Rattle.sets.specs.Subset.{Sub, subset, sub-refl}
 use Rattle.optimum.specs.Workspace.{at}
 use Rattle.optimum.specs.Direct.{last-whole}
 use Rattle.staging.specs.Tables.{barred, fromTables, costFromTables, noCost}
-use Rattle.cells.specs.Given.{Given, lastFrom}
+use Rattle.cells.specs.Given.{slotSum, Given, lastFrom}
 
 -- ---- the test
 
@@ -41,17 +41,17 @@ serve-priced price opens t r s h = ltb→lt (at price s) barred (both-of (ltb (a
 
 module _ {size slots : ℕ} {need late price opens : List ℕ} (g : Given size slots need late price opens) where
   pub served-fits : (t r s : ℕ) → r < size → Sub s r → T (fromTables price opens t r s) → costFromTables need late price t r s < 2 ^ 32
-  served-fits t r s l hs h = g .fits r s l hs (serve-priced price opens t r s h)
+  served-fits t r s l hs h = g .fits t r s l hs (serve-priced price opens t r s h)
 
   -- the whole of r in the last slot, which leaves nothing
   module _ (j r : ℕ) (l : r < size) (may : T (fromTables price opens (suc j) r r)) where
     nothing : r - r ≡ 0
     nothing = omega arith
 
-    pub whole-fits : at late (bitAnd r (at need 0)) + at price r < 2 ^ 32
-    whole-fits = subst (λ x. at late (bitAnd r (at need x)) + at price r < 2 ^ 32) nothing (served-fits (suc j) r r l (sub-refl r) may)
+    pub whole-fits : slotSum need late (at price r) 0 r < 2 ^ 32
+    whole-fits = subst (λ x. slotSum need late (at price r) x r < 2 ^ 32) nothing (served-fits (suc j) r r l (sub-refl r) may)
 
-    pub whole-cell : (at late (bitAnd r (at need 0)) + at price r ≡ lastFrom need late price opens j r .value) × (r ≡ lastFrom need late price opens j r .set)
+    pub whole-cell : (slotSum need late (at price r) 0 r ≡ lastFrom need late price opens j r .value) × (r ≡ lastFrom need late price opens j r .set)
     whole-cell =
         let (v, s) = last-whole (fromTables price opens) (costFromTables need late price) noCost (suc j) r may (omega (arith, served-fits (suc j) r r l (sub-refl r) may)) in
-        (ap (λ x. at late (bitAnd r (at need x)) + at price r) (sym nothing) ∙ v, s)
+        (ap (λ x. slotSum need late (at price r) x r) (sym nothing) ∙ v, s)

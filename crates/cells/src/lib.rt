@@ -5,10 +5,8 @@
 // values in 64. Over slices, for up to 12 trains and 8 slots. Assumes nothing.
 ghost use mathlib.Core.Path.{_≡_};
 ghost use Prim.Native.Nat.{_+_, _^_, _<_};
-ghost use lib.Bits.{bitAnd};
 ghost use lib.ListN.{length};
-ghost use Rattle.optimum.specs.Workspace.{at};
-ghost use Rattle.cells.specs.Given.{Given, Rests, cellFrom, lastFrom};
+ghost use Rattle.cells.specs.Given.{slotSum, Given, Rests, cellFrom, lastFrom};
 
 // A cell of the table: the least value, and the set that is served for it.
 pub struct Pick {
@@ -20,8 +18,8 @@ pub struct Pick {
 // weighed, summed in 32 bits. On a sound day that fits: a slot costs no more than a row (`slot-in-row`, staging), and a row no more than
 // 2,206,694,520 (`cost-most`, day).
 fn slot_cost(need: &[u16], late: &[u32], splits: u32, rest: usize, s: usize) -> u32
-    requires { ⌜ (rest < 4096) × (rest < length (now need)) × (s < 4096) × (s < length (now late)) × (at (now late) (bitAnd s (at (now need) rest)) + splits < 2 ^ 32) ⌝ }
-    ensures { λ r. ⌜ r ≡ at (now (late .entry)) (bitAnd s (at (now (need .entry)) rest)) + splits ⌝ }
+    requires { ⌜ (rest < 4096) × (rest < length (now need)) × (s < 4096) × (s < length (now late)) × (slotSum (now need) (now late) splits rest s < 2 ^ 32) ⌝ }
+    ensures { λ r. ⌜ r ≡ slotSum (now (need .entry)) (now (late .entry)) splits rest s ⌝ }
 {
     late[s & (need[rest] as usize)] + splits
 }

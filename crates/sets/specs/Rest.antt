@@ -44,15 +44,14 @@ mask-rest n p q h =
 pub has-none : (i : ℕ) → has 0 i ≡ false
 has-none i = ap (λ m. has m i) (sym (mask-empty (suc i) (λ k. false) (λ k l. refl))) ∙ has-mask (suc i) (λ k. false) i (omega arith)
 
+full-mask : (n : ℕ) → mask n (λ k. true) ≡ full n
+full-mask n = omega (arith, mask-full n (λ k. true) (λ k m. refl))
+
 pub has-full : (n i : ℕ) → i < n → has (full n) i ≡ true
-has-full n i l =
-    let e : full n ≡ mask n (λ k. true) = omega (arith, mask-full n (λ k. true) (λ k m. refl)) in
-    ap (λ m. has m i) e ∙ has-mask n (λ k. true) i l
+has-full n i l = ap (λ m. has m i) (sym (full-mask n)) ∙ has-mask n (λ k. true) i l
 
 pub sub-full : (n r : ℕ) → r ≤ full n → Sub r (full n)
-sub-full n r l =
-    let every : mask n (λ k. true) ≡ full n = omega (arith, mask-full n (λ k. true) (λ k m. refl)) in
-    subst₂ Sub (mask-has n r (omega (arith, pow-pos n))) every (sub-mask n (has r) (λ k. true) (λ i m t. tt))
+sub-full n r l = subst₂ Sub (mask-has n r (omega (arith, pow-pos n))) (full-mask n) (sub-mask n (has r) (λ k. true) (λ i m t. tt))
 
 pub sub-has : (n s r : ℕ) → Sub s r → r < 2 ^ n → (i : ℕ) → i < n → T (has s i) → T (has r i)
 sub-has n s r h b i l t =

@@ -2,7 +2,6 @@
 //
 // Proved: `solve` leaves the least cost of all trains and the choices of all slots for what can remain of them, as optimum's `Solved`
 // says. Over slices, for up to 12 trains and 8 slots. Assumes nothing.
-ghost use mathlib.Core.Path.{_≡_};
 ghost use Prim.Native.Nat.{_+_, _-_, _*_, _≤_, _<_};
 ghost use lib.ListN.{length};
 ghost use Rattle.optimum.specs.Layers.{Every, Solved};

@@ -20,7 +20,7 @@ module _ (y : Yard) where
   ahead-precedes row other = ahead-not-lower (y .slots) (λ j. slotMask (y .trains) row (suc j)) (λ j. slotMask (y .trains) other (suc j))
 
   pub row-cost : {row : List ℕ} → DayRow y row → worth (slotCost y) (y .trains) (y .slots) row ≡ cost y row
-  row-cost {row} h = worth-cost y row (h .staged)
+  row-cost {row} h = worth-cost y (y .slots) row (h .staged)
 
   pub best-plan : (row : List ℕ) → BestRow (servable y) (slotCost y) (y .trains) (y .slots) row → Best y row
   best-plan row b =

@@ -94,29 +94,29 @@ module _ (n : ℕ) (a : ℕ → ℕ → ℕ) (row : List ℕ) where
 
 -- ---- the whole row
 
-module _ (y : Yard) (row : List ℕ) (staged : Slotted (y .trains) (y .slots) row) where
+module _ (y : Yard) (slots : ℕ) (row : List ℕ) (staged : Slotted (y .trains) slots row) where
   pub revisits-by-slot : revisits (y .trains) (received y) row
-      ≡ sum (y .slots) λ j. lateTrains y (remaining (y .trains) row (suc j)) (stageSet (y .trains) row (suc j))
+      ≡ sum slots λ j. lateTrains y (remaining (y .trains) row (suc j)) (stageSet (y .trains) row (suc j))
   unfolding revisits count
   revisits-by-slot =
-      by-slot (y .trains) (y .slots) row staged (λ i. bit (revisiting (y .trains) (received y) row i))
-      ∙ sum-ext (y .slots) (λ j. inSlot (y .trains) row (λ i. bit (revisiting (y .trains) (received y) row i)) (suc j))
+      by-slot (y .trains) slots row staged (λ i. bit (revisiting (y .trains) (received y) row i))
+      ∙ sum-ext slots (λ j. inSlot (y .trains) row (λ i. bit (revisiting (y .trains) (received y) row i)) (suc j))
       (λ j. lateTrains y (remaining (y .trains) row (suc j)) (stageSet (y .trains) row (suc j)))
       (λ j l. sym (late-in-slot (y .trains) (received y) row (suc j)))
 
-  pub splits-by-slot : splits (y .trains) (received y) row ≡ sum (y .slots) λ j. fromOutside (y .trains) (received y) (stageSet (y .trains) row (suc j))
+  pub splits-by-slot : splits (y .trains) (received y) row ≡ sum slots λ j. fromOutside (y .trains) (received y) (stageSet (y .trains) row (suc j))
   unfolding splits
   splits-by-slot =
-      by-slot (y .trains) (y .slots) row staged (splitsTo (y .trains) (received y) row)
-      ∙ sum-ext (y .slots) (λ j. inSlot (y .trains) row (splitsTo (y .trains) (received y) row) (suc j))
+      by-slot (y .trains) slots row staged (splitsTo (y .trains) (received y) row)
+      ∙ sum-ext slots (λ j. inSlot (y .trains) row (splitsTo (y .trains) (received y) row) (suc j))
       (λ j. fromOutside (y .trains) (received y) (stageSet (y .trains) row (suc j)))
       (λ j l. sym (split-in-slot (y .trains) (received y) row (suc j)))
 
-  pub worth-cost : worth (slotCost y) (y .trains) (y .slots) row ≡ cost y row
+  pub worth-cost : worth (slotCost y) (y .trains) slots row ≡ cost y row
   unfolding worth cost weighed
   worth-cost =
-      sum-add (y .slots) (λ j. y .revisit * late j) (λ j. y .split * outside j)
-      ∙ ap₂ (λ x z. x + z) (sum-times (y .slots) (y .revisit) late) (sum-times (y .slots) (y .split) outside)
+      sum-add slots (λ j. y .revisit * late j) (λ j. y .split * outside j)
+      ∙ ap₂ (λ x z. x + z) (sum-times slots (y .revisit) late) (sum-times slots (y .split) outside)
       ∙ ap₂ (λ x z. y .revisit * x + y .split * z) (sym revisits-by-slot) (sym splits-by-slot)
     where
       late : ℕ → ℕ

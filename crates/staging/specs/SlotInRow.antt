@@ -5,7 +5,7 @@
 use mathlib.Core.Path.{_≡_, refl, sym, ap, _∙_, subst}
 use mathlib.Core.Bool.{true}
 use mathlib.Core.List.{List, [], _∷_}
-use Prim.Native.Nat.{ℕ, _+_, _-_, _*_, _≤_}
+use Prim.Native.Nat.{ℕ, _-_, _*_, _≤_}
 use native.Mathlib.Omega.{arith}
 use Rattle.sets.specs.Subset.{Sub, sub-refl, sub-rest}
 use Rattle.sets.specs.Rest.{full, sub-full}
@@ -35,24 +35,7 @@ three-served n r s l hs =
 abbrev pub rowAround : ℕ → ℕ → ℕ → List ℕ
 rowAround n r s = rowOf n (threeSets n r s)
 
--- the day with three slots: cost and contributions are those of the day
-abbrev withThreeSlots : Yard → Yard
-withThreeSlots y =
-    record {
-      trains = y .trains;
-      tracks = y .tracks;
-      slots = 3;
-      revisit = y .revisit;
-      split = y .split;
-      numbers = y .numbers;
-      first = y .first;
-      last = y .last;
-      width = y .width;
-      boxes = y .boxes;
-    }
-
 pub slot-in-row : (y : Yard) (t r s : ℕ) → r ≤ full (y .trains) → Sub s r → slotCost y t r s ≤ cost y (rowAround (y .trains) r s)
-unfolding cost
 slot-in-row y t r s l hs =
     let n : ℕ = y .trains in
     let served : Schedule any 1 (full n) (threeSets n r s) = three-served n r s l hs in
@@ -60,7 +43,7 @@ slot-in-row y t r s l hs =
     let whole : value (slotCost y) 1 (full n) (threeSets n r s) ≡ cost y (rowAround n r s) =
     ap (value (slotCost y) 1 (full n)) (sym (sets-row any n (threeSets n r s) served 3 refl))
     ∙ row-value row (slotCost y)
-    ∙ worth-cost (withThreeSlots y) (rowAround n r s) (row .staged) in
+    ∙ worth-cost y 3 (rowAround n r s) (row .staged) in
     let remain : full n - (full n - r) ≡ r = omega arith in
     omega (arith, whole, ap (λ x. slotCost y 2 x s) remain)
 

@@ -5,7 +5,7 @@
 // words behind them as they were. The functions take slices, a width and numbers, so that records of other sizes use them too.
 // Assumes nothing.
 ghost use mathlib.Core.Path.{_≡_};
-ghost use Prim.Native.Nat.{ℕ, suc, _+_, _*_, _^_, _≤_, _<_};
+ghost use Prim.Native.Nat.{ℕ, suc, _+_, _^_, _≤_, _<_};
 ghost use lib.ListN.{length};
 ghost use Rattle.model.specs.Model.{cell};
 ghost use Rattle.optimum.specs.Workspace.{at};

@@ -48,7 +48,7 @@ module _ (a : tie.At-loop Inv-loop μ-loop) where
   -- then its cost fits 32 bits
   fits : at (from a .args .price .now) (a .loop .s) < barred
       → costFromTables (from a .args .need .now) (from a .args .late .now) (from a .args .price .now) (suc (from a .args .j)) (from a .args .r) (a .loop .s) < 2 ^ 32
-  fits l = from a .pre .0 .fits (from a .args .r) (a .loop .s) (omega arith) of-r l
+  fits l = from a .pre .0 .fits (suc (from a .args .j)) (from a .args .r) (a .loop .s) (omega arith) of-r l
 
 -- s is tried: its total is taken or kept out, or what it leaves has no schedule, or it is barred
 tried : (c : tie.Joined1 Inv-loop μ-loop)

@@ -1,13 +1,11 @@
 -- `cells::whole` meets its contract. The code's test is that of the tables, so r is the only set that the last slot can serve, or none is.
 -- Assumes nothing.
-use Prim.Native.Nat.{ℕ, suc}
+use Prim.Native.Nat.{suc}
 use mathlib.Core.Path.{_∙_, subst}
 use native.Mathlib.Omega.{arith}
 use borrow.Author.Needs.{needs}
-use lib.Bits.{bitAnd, and-le-l}
 use lib.Dec.{T}
 use Rattle.fold.specs.Test.{of-true}
-use Rattle.optimum.specs.Workspace.{at}
 use Rattle.optimum.specs.Direct.{last-none}
 use Rattle.staging.specs.Tables.{fromTables, costFromTables, noCost}
 use Rattle.cells.specs.Laws.{test-reads, whole-fits, whole-cell}

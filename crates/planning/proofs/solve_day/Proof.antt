@@ -121,7 +121,7 @@ solve-requires c κs =
         lates = long _ (f .before .before .before .before .before .before .before .before .before .fill-late .kept .0);
         prices = long _ (f .before .before .before .before .before .fill-price .kept .0);
         opened = subst (λ k. s .args .day .slots ≤ k) (sym (f .fill-open .kept .0)) slots;
-        fits = λ r x l hx m. omega (arith, unbarred-cheap (tables f) 1 r x (omega (arith, s .pre .1 .0)) hx m);
+        fits = λ t r x l hx m. omega (arith, unbarred-cheap (tables f) t r x (omega (arith, s .pre .1 .0)) hx m);
       },
       record { few = least s .tracks .1; enough = λ m h. room-enough (tables f) m (omega (arith, s .pre .1 .0)) },
       s .pre .1 .1 .0,
