@@ -2,7 +2,7 @@
 -- Assumes nothing.
 use mathlib.Core.Path.{_≡_, refl, sym, ap, ap₂, _∙_, subst}
 use mathlib.Core.List.{List, [], _∷_, _++_}
-use Prim.Native.Nat.{ℕ, zero, suc, _+_, _≤_, _<_}
+use Prim.Native.Nat.{ℕ, zero, suc, _+_, _^_, _≤_, _<_}
 use native.Mathlib.Numerals.{add-one}
 use native.Mathlib.Omega.{arith}
 use lib.Dec.{T}
@@ -47,7 +47,7 @@ module _ (y : Yard) (row : List ℕ) (best : ℕ) {k : ℕ} (found : k ≡ leftO
       record { says = ap gives same ∙ sym said; beside = same ∙ sym (ap comparisonOrZero said) }
 
 -- no cost of a sound day is too great for `saving_of`
-pub cost-fits : (y : Yard) (row : List ℕ) {o : Outcome} → T (sound dayLimits y) → o ≡ outcome y row → o .cost ≤ 2206694520
+pub cost-fits : (y : Yard) (row : List ℕ) {o : Outcome} → T (sound dayLimits y) → o ≡ outcome y row → o .cost < 2 ^ 63
 unfolding cost
 cost-fits y row {o} s e = omega (arith, cost-most y row s, ap (λ (o : Outcome). o .cost) e)
 

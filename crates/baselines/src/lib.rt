@@ -5,7 +5,7 @@
 // zeros beside a refusal; of the two areas only the words that planning needs may change. specs/Savings.antt: no saving is below zero.
 // Assumes nothing.
 ghost use mathlib.Core.Path.{_≡_};
-ghost use Prim.Native.Nat.{_≤_};
+ghost use Prim.Native.Nat.{_^_, _≤_, _<_};
 ghost use lib.Dec.{T};
 ghost use lib.ListN.{length, replicate};
 ghost use Rattle.day.specs.Answer.{refusal};
@@ -55,7 +55,7 @@ fn refused(given: Refusal) -> Baseline
 
 // Compares a row of a sound day with the planned cost: 14 where it leaves a train without a slot.
 fn compare(day: Day, row: &[u8], best: u64) -> Baseline
-    requires { ⌜ T (sound dayLimits (yard day)) × (day .trains ≤ length (now row)) × (best ≤ 2206694520) ⌝ }
+    requires { ⌜ T (sound dayLimits (yard day)) × (day .trains ≤ length (now row)) × (best < 2 ^ 63) ⌝ }
     ensures { λ r. ⌜ Says (against (yard day) (now (row .entry)) best) r ⌝ }
 {
     let n = day.trains;
@@ -113,7 +113,7 @@ fn fill_row(procedure: Procedure, day: Day, row: &mut [u8])
 }
 
 fn compare_with(procedure: Procedure, day: Day, best: u64) -> Baseline
-    requires { ⌜ T (sound dayLimits (yard day)) × (best ≤ 2206694520) ⌝ }
+    requires { ⌜ T (sound dayLimits (yard day)) × (best < 2 ^ 63) ⌝ }
     ensures { λ r. ⌜ Says (against (yard day) (rowBy procedure (yard day)) best) r ⌝ }
 {
     let n = day.trains;

@@ -3,7 +3,7 @@
 // Proved: each leaves the row that specs/Procedures.antt gives, with slot 0 for a train that gets none. The functions take slices, a width
 // and numbers, so that records of other sizes use them too. Assumes nothing.
 ghost use mathlib.Core.Path.{_≡_};
-ghost use Prim.Native.Nat.{_≤_, _<_};
+ghost use Prim.Native.Nat.{_^_, _≤_, _<_};
 ghost use lib.IntN.{pos, _-ℤ_};
 ghost use lib.ListN.{length, replicate};
 ghost use Rattle.fold.specs.Fold.{sum, some};
@@ -232,9 +232,9 @@ pub fn left_over(row: &[u8], n: usize) -> usize
     n
 }
 
-// One cost less another, which may be the greater: no cost of a sound day is above 2,206,694,520.
+// One cost less another, which may be the greater.
 pub fn saving_of(cost: u64, planned: u64) -> i64
-    requires { ⌜ (cost ≤ 2206694520) × (planned ≤ 2206694520) ⌝ }
+    requires { ⌜ (cost < 2 ^ 63) × (planned < 2 ^ 63) ⌝ }
     ensures { λ r. ⌜ r ≡ pos cost -ℤ pos planned ⌝ }
 {
     (cost as i64) - (planned as i64)

@@ -2,7 +2,7 @@
 -- Assumes nothing.
 use mathlib.Core.Path.{_≡_, _∙_, ap₂}
 use mathlib.Core.Bool.{Bool, true, false, cond}
-use Prim.Native.Nat.{ℕ, zero, suc, _-_, _≤_, _<_, _^_}
+use Prim.Native.Nat.{ℕ, zero, suc, _-_, _<_, _^_}
 use native.Mathlib.Omega.{arith}
 use lib.Dec.{ltb}
 use lib.IntN.{ℤ, pos, negsuc, _-ℤ_}
@@ -18,7 +18,7 @@ picked : (t : Bool) (x y n : ℕ) → x < n → y < n → mag (cond t (negsuc x)
 picked true x y n h g = h
 picked false x y n h g = g
 
-small : (a b : ℕ) → a ≤ 2206694520 → b ≤ 2206694520 → mag (pos a -ℤ pos b) < 2 ^ 63
+small : (a b : ℕ) → a < 2 ^ 63 → b < 2 ^ 63 → mag (pos a -ℤ pos b) < 2 ^ 63
 small a zero h g = omega arith
 small a (suc b) h g = picked (ltb a (suc b)) (suc b - suc a) (a - suc b) (2 ^ 63) (omega arith) (omega arith)
 
