@@ -1,7 +1,7 @@
 /* The yard slot planner for programs in C: plan a day, check a day file, value a row of slots, see what planning saves.
  *
  * The functions are proved (crates/yard): for every text, every row and all lent memory they return and leave exactly what stands here.
- * They keep no state, allocate nothing, and may be called from several threads at once. Those that plan (yard_answer,
+ * They keep no state, allocate nothing, and may be called from several threads at once. Those that plan (yard_answer, yard_plan,
  * yard_first_come_first_served, yard_myopic) need up to 160 KB of stack: the examples of embedding/ run in 160 KB and not in 140.
  *
  * Build the library with the Rattle kit and link it:
@@ -15,7 +15,7 @@
  *      1  a names line is absent or differs          2  a row is absent or has another form
  *      3  a value is outside its limits              4  a train number isn't above the one before
  *      5  first is above last                        6  a move names an unlisted train, or to equals from
- *      7  a move's pair isn't after the pair before  9  no row is allowed (printed by yard_answer, never returned by it)
+ *      7  a move's pair isn't after the pair before  9  no row is allowed (yard_answer prints it and returns 0)
  *     10  lent memory is shorter than needed        11  the row's length isn't the number of trains
  *     12  a slot lies outside its train's window    13  a slot holds more trains than there are tracks
  *     14  first come or the myopic procedure leaves a train without a slot
@@ -30,8 +30,17 @@
 extern "C" {
 #endif
 
-/* Bytes of output that suffice for every answer. */
+/* The version of this interface. It changes when a size below or the meaning of a number does. yard_version() returns that of the library
+ * that is linked: compare the two where header and library may come from different places. */
+#define YARD_VERSION 1
+
+uint64_t yard_version(void);
+
+/* Bytes of output that suffice for every answer; trains that a day has at most; words of the two work areas that suffice for every day. */
 #define YARD_ANSWER_BYTES 148
+#define YARD_MOST_TRAINS 12
+#define YARD_COST_WORDS 4096
+#define YARD_CHOICE_WORDS 32768
 
 /* Plans the day of a text: what the program yard-plan prints for it, byte for byte. That is the plan file; or, for a text that is no day
  * file, the two lines of refusals 1 to 7; or, for a day without a plan, the two lines of refusal 9.
@@ -42,6 +51,33 @@ extern "C" {
  *
  * Returns 0, or 10 where out is shorter than the answer: then no byte of out has changed, and *bytes is 0. */
 uint64_t yard_answer(const uint8_t *text, size_t text_length, uint8_t *out, size_t out_length, size_t *bytes);
+
+/* Plans the day of a text, for programs that want slots and numbers and no text: the plan that yard_answer prints.
+ *
+ * text, text_length        the day file. No byte of it changes.
+ * row, row_length          room for the slot of each train; YARD_MOST_TRAINS bytes always suffice. Afterwards its first *trains bytes hold
+ *                          the slots, in the order of the day file, counted from 1; bytes beyond stay as they were, after a refusal all.
+ * numbers, numbers_length  room for at least three numbers. Afterwards the first three hold revisits, split moves and cost; after a
+ *                          refusal what it carries, then zeros: 1 to 7 the line; 9 the first and last slot of the overbooked stretch and
+ *                          the number of trains bound inside; 10 nothing. Numbers beyond stay as they were.
+ * trains                   holds the number of slots written afterwards: the number of trains of the day, or 0 after a refusal.
+ *
+ * Returns 0, or the refusal: 10 where numbers_length is below 3 (then no number has changed), else 1 to 7, else 10 where row_length is
+ * below the number of trains, else 9. */
+uint64_t yard_plan(const uint8_t *text, size_t text_length, uint8_t *row, size_t row_length, uint64_t *numbers, size_t numbers_length,
+                   size_t *trains);
+
+/* The same with the two work areas of planning lent, for programs that keep them elsewhere than on the stack. For n trains and T slots
+ * planning needs 2^n words of cost and T x 2^n words of choice; YARD_COST_WORDS and YARD_CHOICE_WORDS always suffice.
+ *
+ * cost, cost_length        After 0 and 9 the first 2^n words may hold anything; words beyond, and after any other refusal all, stay.
+ * choice, choice_length    The same of the first T x 2^n words.
+ *
+ * Returns as yard_plan does, with 10 also where an area is too short: 10 where numbers_length is below 3, else 1 to 7, else 10 where an
+ * area or the row is too short, else 9. */
+uint64_t yard_plan_in_workspace(const uint8_t *text, size_t text_length, uint64_t *cost, size_t cost_length, uint16_t *choice,
+                                size_t choice_length, uint8_t *row, size_t row_length, uint64_t *numbers, size_t numbers_length,
+                                size_t *trains);
 
 /* Checks whether a text is a day file.
  *

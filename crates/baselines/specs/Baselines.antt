@@ -8,7 +8,7 @@ use lib.IntN.{ℤ, pos, _-ℤ_}
 use Rattle.model.specs.Model.{Yard, Outcome, outcome, cost}
 use Rattle.day.specs.Answer.{Answer, gives, refuses, refusal, onGiven, Check, must, checked}
 use Rattle.day.specs.declared.Limits.{Limits}
-use Rattle.valuing.specs.Valuing.{outcomeOf}
+use Rattle.valuing.specs.Valuing.{outcomeOf, noOutcome}
 use Rattle.planning.specs.Planning.{costWords, choiceWords, planned, begins, openWords}
 use Rattle.procedures.specs.Procedures.{leftOver, firstCome, myopic}
 use Rattle.baselines.specs.declared.Baseline.{Baseline}
@@ -39,7 +39,7 @@ answer (Refused r) c = refusal r
 -- the numbers beside the answer, zeros with a refusal
 abbrev pub comparisonOrZero : Answer Comparison → Comparison
 comparisonOrZero (gives c) = c
-comparisonOrZero (refuses k carries) = record { outcome = record { revisits = 0; splits = 0; cost = 0 }; saving = pos 0 }
+comparisonOrZero (refuses k carries) = record { outcome = noOutcome; saving = pos 0 }
 
 -- ---- the answer
 

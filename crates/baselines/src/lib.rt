@@ -17,8 +17,6 @@ ghost use Rattle.baselines.specs.Laws.{Says};
 use day::Day;
 use day::Refusal;
 use planning::Planned;
-use valuing::Revisits;
-use valuing::Splits;
 use valuing::Value;
 
 // The procedures that planning is compared with.
@@ -44,11 +42,7 @@ fn refused(given: Refusal) -> Baseline
 {
     Baseline {
         verdict: Verdict::Refused(given),
-        value: Value {
-            revisits: Revisits(0),
-            splits: Splits(0),
-            cost: 0,
-        },
+        value: valuing::zero_value(),
         saving: 0,
     }
 }

@@ -31,7 +31,13 @@ fn put_values(out: &mut [u8], value: Value) -> usize
     ensures { λ r. ⌜ Put (now (out .entry)) (now (out .exit)) 0 r (valueLines (outcomeOf value)) ⌝ }
 {
     let next = output::put_bytes(out, 0, &VALUE_NAMES);
-    output::put_three(out, next, value.revisits.0, value.splits.0, value.cost)
+    output::put_three(
+        out,
+        next,
+        value.revisits.count(),
+        value.splits.count(),
+        value.cost,
+    )
 }
 
 // Puts the second section from a place on: its names line and the slots of n trains. Gives the place after it.

@@ -20,6 +20,10 @@ use Rattle.valuing.specs.declared.Valued.the-variants.{Values, Refused}
 abbrev pub outcomeOf : Value → Outcome
 outcomeOf v = record { revisits = v .revisits .0; splits = v .splits .0; cost = v .cost }
 
+-- what stands beside a refusal
+abbrev pub noOutcome : Outcome
+noOutcome = record { revisits = 0; splits = 0; cost = 0 }
+
 abbrev pub answer : Valued → Answer Outcome
 answer (Values v) = gives (outcomeOf v)
 answer (Refused r) = refusal r

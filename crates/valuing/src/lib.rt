@@ -10,19 +10,46 @@ ghost use Rattle.fold.specs.Fold.{lowest};
 ghost use Rattle.model.specs.Model.{cell, lateSupplier, revisiting, revisits, splitBoxes, splitsTo, splits, weighed, weighedCounts, inWindow, slotMask, roomy};
 ghost use Rattle.day.specs.Sound.{dayLimits, yard};
 ghost use Rattle.valuing.specs.Given.{Given, GivenPair};
-ghost use Rattle.valuing.specs.Valuing.{strays, overfull, outcomeOf, answer, valued};
+ghost use Rattle.valuing.specs.Valuing.{strays, overfull, outcomeOf, noOutcome, answer, valued};
 use day::Day;
 use day::Refusal;
 
-// The two counts of the model, each of its own type: only `weigh` opens both.
-pub struct Revisits(pub u64);
+// The two counts of the model, a number type each. Outside this crate a count is opened by its own opener alone; only `weigh` opens both.
+pub struct Revisits(u64);
 
-pub struct Splits(pub u64);
+pub struct Splits(u64);
+
+impl Revisits {
+    pub fn count(self) -> u64
+        ensures { λ r. ⌜ r ≡ self .0 ⌝ }
+    {
+        self.0
+    }
+}
+
+impl Splits {
+    pub fn count(self) -> u64
+        ensures { λ r. ⌜ r ≡ self .0 ⌝ }
+    {
+        self.0
+    }
+}
 
 pub struct Value {
     pub revisits: Revisits,
     pub splits: Splits,
     pub cost: u64,
+}
+
+// The numbers beside a refusal.
+pub fn zero_value() -> Value
+    ensures { λ r. ⌜ outcomeOf r ≡ noOutcome ⌝ }
+{
+    Value {
+        revisits: Revisits(0),
+        splits: Splits(0),
+        cost: 0,
+    }
 }
 
 pub enum Valued {

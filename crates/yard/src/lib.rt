@@ -4,29 +4,38 @@
 // Proved: for every text, row and lent memory each function returns and leaves what specs/Interface.antt says; too little room gives
 // refusal 10. Assumes nothing; of a caller only that a pointer has the length that is given beside it.
 ghost use mathlib.Core.Path.{_≡_};
-ghost use mathlib.Core.List.{[], _∷_, _++_};
+ghost use mathlib.Core.List.{[]};
 ghost use Prim.Native.Nat.{_≤_};
-ghost use lib.Dec.{leb};
-ghost use lib.ListN.{length, drop};
-ghost use Rattle.day.specs.Answer.{gives, refusal, code};
+ghost use lib.ListN.{length};
+ghost use Rattle.day.specs.Answer.{code};
 ghost use Rattle.day.specs.Sound.{dayLimits, yard};
-ghost use Rattle.valuing.specs.Valuing.{outcomeOf, valued};
+ghost use Rattle.valuing.specs.Valuing.{valued};
 ghost use Rattle.dayfile.specs.Reading.{readDay};
 ghost use Rattle.output.specs.Output.{writes, leaves};
 ghost use Rattle.answering.specs.Answering.{answerText};
 ghost use Rattle.procedures.specs.Procedures.{firstCome, myopic};
 ghost use Rattle.baselines.specs.Baselines.{answer, comparisonOf, comparisonOrZero, rowBy, compared};
-ghost use Rattle.yard.specs.Interface.{count, line, valueText, compareText, outcomes, three, numbersAfter};
-ghost use Rattle.yard.specs.Laws.{Told, ToldSaving};
+ghost use Rattle.planning.specs.Planning.{costWords, choiceWords, Stays};
+ghost use Rattle.telling.specs.Telling.{numbersAfter};
+ghost use Rattle.telling.specs.Laws.{Told};
+ghost use Rattle.textplan.specs.TextPlan.{planFor, rowFor, openFor, slotsFor};
+ghost use Rattle.yard.specs.Interface.{version, costArea, choiceArea, count, line, valueText, compareText, outcomes};
+ghost use Rattle.yard.specs.Laws.{ToldSaving};
 use baselines::Baseline;
 use baselines::Procedure;
 use baselines::Verdict;
 use day::Day;
-use day::Refusal;
 use dayread::Outcome;
 use output::Wrote;
-use valuing::Value;
 use valuing::Valued;
+
+// The version of include/yard.h that this library meets.
+#[no_mangle]
+pub extern "C" fn yard_version() -> u64
+    ensures { λ r. ⌜ r ≡ version ⌝ }
+{
+    1
+}
 
 // What yard-plan prints for a text, in the first bytes of `out`, and their count; or 10, with a count of 0.
 #[no_mangle]
@@ -45,6 +54,45 @@ pub extern "C" fn yard_answer(text: &[u8], out: &mut [u8], bytes: &mut usize) ->
             refusals::in_numbers(refusal).number
         }
     }
+}
+
+// Plans the day of a text in lent work areas: 0 with the slots in the first bytes of `row`, revisits, split moves and cost in the first
+// three numbers, and the number of slots in `trains`; or the number of the refusal with what it carries there, and no slots.
+#[no_mangle]
+pub extern "C" fn yard_plan_in_workspace(
+    text: &[u8],
+    cost: &mut [u64],
+    choice: &mut [u16],
+    row: &mut [u8],
+    numbers: &mut [u64],
+    trains: &mut usize,
+) -> u64
+    ensures { λ r. ⌜ r ≡ code (planFor dayLimits (now (text .entry)) (length (now (cost .entry))) (length (now (choice .entry))) (length (now (row .entry))) (length (now (numbers .entry)))) ⌝ }
+    ensures { λ _. ⌜ now (numbers .exit) ≡ numbersAfter (planFor dayLimits (now (text .entry)) (length (now (cost .entry))) (length (now (choice .entry))) (length (now (row .entry))) (length (now (numbers .entry)))) (now (numbers .entry)) ⌝ }
+    ensures { λ _. ⌜ now (row .exit) ≡ rowFor dayLimits (now (text .entry)) (length (now (cost .entry))) (length (now (choice .entry))) (length (now (numbers .entry))) (now (row .entry)) ⌝ }
+    ensures { λ _. ⌜ now (trains .exit) ≡ slotsFor dayLimits (now (text .entry)) (length (now (cost .entry))) (length (now (choice .entry))) (length (now (row .entry))) (length (now (numbers .entry))) ⌝ }
+    ensures { λ _. ⌜ Stays (openFor costWords dayLimits (now (text .entry)) (length (now (cost .entry))) (length (now (choice .entry))) (length (now (row .entry))) (length (now (numbers .entry)))) (now (cost .entry)) (now (cost .exit)) ⌝ }
+    ensures { λ _. ⌜ Stays (openFor choiceWords dayLimits (now (text .entry)) (length (now (cost .entry))) (length (now (choice .entry))) (length (now (row .entry))) (length (now (numbers .entry)))) (now (choice .entry)) (now (choice .exit)) ⌝ }
+{
+    textplan::plan_text(text, cost, choice, row, numbers, trains)
+}
+
+// The same in areas of its own, which suffice for every day.
+#[no_mangle]
+pub extern "C" fn yard_plan(
+    text: &[u8],
+    row: &mut [u8],
+    numbers: &mut [u64],
+    trains: &mut usize,
+) -> u64
+    ensures { λ r. ⌜ r ≡ code (planFor dayLimits (now (text .entry)) costArea choiceArea (length (now (row .entry))) (length (now (numbers .entry)))) ⌝ }
+    ensures { λ _. ⌜ now (numbers .exit) ≡ numbersAfter (planFor dayLimits (now (text .entry)) costArea choiceArea (length (now (row .entry))) (length (now (numbers .entry)))) (now (numbers .entry)) ⌝ }
+    ensures { λ _. ⌜ now (row .exit) ≡ rowFor dayLimits (now (text .entry)) costArea choiceArea (length (now (numbers .entry))) (now (row .entry)) ⌝ }
+    ensures { λ _. ⌜ now (trains .exit) ≡ slotsFor dayLimits (now (text .entry)) costArea choiceArea (length (now (row .entry))) (length (now (numbers .entry))) ⌝ }
+{
+    let mut cost = [0u64; 4096];
+    let mut choice = [0u16; 32768];
+    textplan::plan_text(text, &mut cost, &mut choice, row, numbers, trains)
 }
 
 // Whether a text is a day file: 0, or the number of the refusal and its line.
@@ -68,40 +116,6 @@ pub extern "C" fn yard_check(text: &[u8], at: &mut u64) -> u64
     }
 }
 
-// Whether there is room for three numbers.
-fn is_room(size: usize) -> bool
-    ensures { λ r. ⌜ r ≡ leb 3 size ⌝ }
-{
-    3 <= size
-}
-
-// Stores three numbers at the front.
-fn store_three(numbers: &mut [u64], a: u64, b: u64, c: u64)
-    requires { ⌜ 3 ≤ length (now numbers) ⌝ }
-    ensures { λ _. ⌜ now (numbers .exit) ≡ a ∷ b ∷ c ∷ drop 3 (now (numbers .entry)) ⌝ }
-{
-    numbers[0] = a;
-    numbers[1] = b;
-    numbers[2] = c;
-}
-
-fn store_value(numbers: &mut [u64], value: Value)
-    requires { ⌜ 3 ≤ length (now numbers) ⌝ }
-    ensures { λ _. ⌜ now (numbers .exit) ≡ three (gives (outcomeOf value)) ++ drop 3 (now (numbers .entry)) ⌝ }
-{
-    store_three(numbers, value.revisits.0, value.splits.0, value.cost);
-}
-
-// Stores what a refusal carries, and gives its number.
-fn tell(numbers: &mut [u64], given: Refusal) -> u64
-    requires { ⌜ 3 ≤ length (now numbers) ⌝ }
-    ensures { λ r. ⌜ Told (now (numbers .entry)) (refusal given) r (now (numbers .exit)) ⌝ }
-{
-    let told = refusals::in_numbers(given);
-    store_three(numbers, told.first, told.second, told.third);
-    told.number
-}
-
 // Values a row of a day that was read.
 fn value_day(day: Day, row: &[u8], numbers: &mut [u64]) -> u64
     requires { ⌜ 3 ≤ length (now numbers) ⌝ }
@@ -109,10 +123,10 @@ fn value_day(day: Day, row: &[u8], numbers: &mut [u64]) -> u64
 {
     match valuing::value_assignment(day, row) {
         Valued::Values(value) => {
-            store_value(numbers, value);
+            telling::store_value(numbers, value);
             0
         }
-        Valued::Refused(refusal) => tell(numbers, refusal),
+        Valued::Refused(refusal) => telling::tell(numbers, refusal),
     }
 }
 
@@ -123,14 +137,14 @@ pub extern "C" fn yard_value(text: &[u8], row: &[u8], numbers: &mut [u64]) -> u6
     ensures { λ r. ⌜ r ≡ code (valueText dayLimits (now (text .entry)) (now (row .entry)) (length (now (numbers .entry)))) ⌝ }
     ensures { λ _. ⌜ now (numbers .exit) ≡ numbersAfter (valueText dayLimits (now (text .entry)) (now (row .entry)) (length (now (numbers .entry)))) (now (numbers .entry)) ⌝ }
 {
-    if !is_room(numbers.len()) {
+    if !telling::is_room(numbers.len()) {
         return 10;
     }
     let reading = dayread::read_day(text);
     let outcome = reading.outcome;
     match outcome {
         Outcome::Accepted => value_day(reading.day, row, numbers),
-        Outcome::Refused(refusal) => tell(numbers, refusal),
+        Outcome::Refused(refusal) => telling::tell(numbers, refusal),
     }
 }
 
@@ -147,17 +161,17 @@ fn tell_baseline(baseline: Baseline, numbers: &mut [u64], saving: &mut i64) -> u
     let verdict = baseline.verdict;
     match verdict {
         Verdict::Compared => {
-            store_value(numbers, baseline.value);
+            telling::store_value(numbers, baseline.value);
             0
         }
-        Verdict::Refused(refusal) => tell(numbers, refusal),
+        Verdict::Refused(refusal) => telling::tell(numbers, refusal),
     }
 }
 
 // Compares a day that was read. The areas are local; they suffice for every sound day.
 fn compare_day(procedure: Procedure, day: Day, numbers: &mut [u64], saving: &mut i64) -> u64
     requires { ⌜ 3 ≤ length (now numbers) ⌝ }
-    ensures { λ r. ⌜ ToldSaving (now (numbers .entry)) (compared dayLimits (yard day) (rowBy procedure (yard day)) 4096 32768) r (now (numbers .exit)) (now (saving .exit)) ⌝ }
+    ensures { λ r. ⌜ ToldSaving (now (numbers .entry)) (compared dayLimits (yard day) (rowBy procedure (yard day)) costArea choiceArea) r (now (numbers .exit)) (now (saving .exit)) ⌝ }
 {
     let mut cost = [0u64; 4096];
     let mut choice = [0u16; 32768];
@@ -171,14 +185,14 @@ fn compare_text(procedure: Procedure, text: &[u8], numbers: &mut [u64], saving: 
     ensures { λ _. ⌜ now (saving .exit) ≡ comparisonOrZero (compareText (rowBy procedure) dayLimits (now (text .entry)) (length (now (numbers .entry)))) .saving ⌝ }
 {
     *saving = 0;
-    if !is_room(numbers.len()) {
+    if !telling::is_room(numbers.len()) {
         return 10;
     }
     let reading = dayread::read_day(text);
     let outcome = reading.outcome;
     match outcome {
         Outcome::Accepted => compare_day(procedure, reading.day, numbers, saving),
-        Outcome::Refused(refusal) => tell(numbers, refusal),
+        Outcome::Refused(refusal) => telling::tell(numbers, refusal),
     }
 }
 

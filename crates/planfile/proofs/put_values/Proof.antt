@@ -1,7 +1,9 @@
 -- `planfile::put_values` meets its contract. The names line, and the row after it.
 -- Assumes nothing.
+use mathlib.Core.Path.{_≡_, ap}
+use mathlib.Core.List.{[], _∷_}
 use native.Mathlib.Omega.{arith}
-use lib.ListN.{length-append}
+use lib.ListN.{length, length-append}
 use Rattle.decimal.specs.PlaceLaws.{put-text}
 use Rattle.lines.specs.Lines.{rowText}
 use Rattle.valuing.specs.Valuing.{outcomeOf}
@@ -19,12 +21,24 @@ put-bytes-requires c κs =
     let s = c .before .before .before .args in
     omega (arith, length-append valueNames (rowText (valueRow (outcomeOf (s .value)))))
 
+count-requires : tie.Need-count-requires
+count-requires c κs = search needs
+
+count-requires-2 : tie.Need-count-requires-2
+count-requires-2 c κs = search needs
+
+-- the row that is written: the two counts, opened, and the cost
+opened : (c : tie.After-count2)
+    → rowText (c .before .count .result ∷ c .count2 .result ∷ c .before .before .before .before .before .before .before .before .before .args .value .cost ∷ [])
+    ≡ rowText (valueRow (outcomeOf (c .before .before .before .before .before .before .before .before .before .args .value)))
+opened c = rw (c .before .count .ensures, c .count2 .ensures)
+
 put-three-requires : tie.Need-put-three-requires
 unfolding valueNames
 put-three-requires c κs =
-    let b = c .before .before .before in
+    let b = c .before .before .before .before .before in
     let s = b .before .before .before .before .args in
-    omega (arith, length-append valueNames (rowText (valueRow (outcomeOf (s .value)))), b .put-bytes .ensures .next)
+    omega (arith, length-append valueNames (rowText (valueRow (outcomeOf (s .value)))), b .put-bytes .ensures .next, ap length (opened c))
 
 same-length : tie.Need-same-length
 same-length c = search needs
@@ -33,11 +47,11 @@ returns : tie.Need-returns
 unfolding valueNames
 returns c =
     let r = c .before .before in
-    let b = r .before .before .before .before in
+    let b = r .before .before .before .before .before .before in
     let s = b .before .before .before .before .args in
-    put-text {b = rowText (valueRow (outcomeOf (s .value)))} (b .put-bytes .ensures) (r .put-three .ensures)
+    put-text {b = rowText (valueRow (outcomeOf (s .value)))} (b .put-bytes .ensures) (rw (← opened (r .before)) (r .put-three .ensures))
 
 pub put-values-spec : {M : Type 1} → statement M
 put-values-spec =
     tie.close
-    (tie.spec slice-aggregate-put-bytes put-bytes-requires put-three-requires same-length returns)
+    (tie.spec slice-aggregate-put-bytes put-bytes-requires count-requires count-requires-2 put-three-requires same-length returns)

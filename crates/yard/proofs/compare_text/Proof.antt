@@ -9,7 +9,8 @@ use Rattle.day.specs.Answer.{onGiven}
 use Rattle.day.specs.Sound.{dayLimits, yard}
 use Rattle.dayread.specs.Whole.{answer}
 use Rattle.baselines.specs.Baselines.{rowBy, compared}
-use Rattle.yard.specs.Laws.{no-room-saving, told-refused, told-saving}
+use Rattle.yard.specs.Interface.{costArea, choiceArea}
+use Rattle.yard.specs.Laws.{no-saving, told-refused, told-saving}
 use borrow.Author.Needs.{needs}
 use Rattle.yard.proofs.compare_text.Statement.{statement}
 use Rattle.yard.proofs.compare_text.Tie as tie
@@ -18,7 +19,7 @@ is-room-requires : tie.Need-is-room-requires
 is-room-requires c κs = search needs
 
 returns : tie.Need-returns
-returns c = let s = c .before .before .before .before in no-room-saving dayLimits (now (s .args .text)) (now (s .args .numbers)) (rowBy (s .args .procedure)) (sym (c .before .is-room .ensures) ∙ not-true (c .before .is-room .result) (c .if1 .taken))
+returns c = let s = c .before .before .before .before in no-saving dayLimits (now (s .args .text)) (now (s .args .numbers)) (rowBy (s .args .procedure)) (sym (c .before .is-room .ensures) ∙ not-true (c .before .is-room .result) (c .if1 .taken))
 
 read-day-requires : tie.Need-read-day-requires
 read-day-requires c κs = search needs
@@ -43,7 +44,7 @@ returns-2 c = let s = c .before .before .before .before .before .before .before 
     let d = c .before .before .before .before .before .before .before in
     let row = rowBy (s .args .procedure) in
     let e = sym (ap (λ o. answer o (yard (d .read-day .result .day))) (c .before .before .before .before .before .enum-told .given .1)) ∙ d .read-day .ensures .0 in
-    let f = sym (ap (λ r. onGiven r λ y. compared dayLimits y (row y) 4096 32768) e) in
+    let f = sym (ap (λ r. onGiven r λ y. compared dayLimits y (row y) costArea choiceArea) e) in
     told-saving dayLimits (now (s .args .text)) (now (s .args .numbers)) row (sym (c .before .before .before .before .before .before .before .before .before .is-room .ensures) ∙ not-false (c .before .before .before .before .before .before .before .before .before .is-room .result) (c .before .before .before .before .before .before .before .before .if1 .left)) f (c .before .before .compare-day .ensures)
 
 same-length-2 : tie.Need-same-length-2
@@ -54,7 +55,7 @@ returns-3 c = let s = c .before .before .before .before .before .before .before 
     let d = c .before .before .before .before .before .before .before in
     let row = rowBy (s .args .procedure) in
     let e = sym (ap (λ o. answer o (yard (d .read-day .result .day))) (c .before .before .before .before .before .outcome .given .1)) ∙ d .read-day .ensures .0 in
-    let f = sym (ap (λ r. onGiven r λ y. compared dayLimits y (row y) 4096 32768) e) in
+    let f = sym (ap (λ r. onGiven r λ y. compared dayLimits y (row y) costArea choiceArea) e) in
     told-saving dayLimits (now (s .args .text)) (now (s .args .numbers)) row (sym (c .before .before .before .before .before .before .before .before .before .is-room .ensures) ∙ not-false (c .before .before .before .before .before .before .before .before .before .is-room .result) (c .before .before .before .before .before .before .before .before .if1 .left)) f (told-refused (c .before .before .before .before .before .outcome .given .0 .0) (c .before .before .tell .ensures))
 
 pub compare-text-spec : {M : Type 1} → statement M

@@ -6,7 +6,8 @@ use mir.Syntax.{w64}
 use mir.Val.{SFits}
 use Rattle.baselines.specs.Baselines.{answer, comparisonOf}
 use Rattle.yard.specs.Interface.{outcomes}
-use Rattle.yard.specs.Laws.{told-values, told-same, told-baseline}
+use Rattle.telling.specs.Laws.{told-values, told-same}
+use Rattle.yard.specs.Laws.{told-baseline}
 use borrow.Author.Needs.{needs}
 use Rattle.yard.proofs.tell_baseline.Statement.{statement}
 use Rattle.yard.proofs.tell_baseline.Tie as tie

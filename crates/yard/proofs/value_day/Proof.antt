@@ -2,7 +2,7 @@
 -- Assumes nothing.
 use mathlib.Core.Path.{sym, ap, _∙_}
 use Rattle.valuing.specs.Valuing.{answer}
-use Rattle.yard.specs.Laws.{told-values, told-same}
+use Rattle.telling.specs.Laws.{told-values, told-same}
 use borrow.Author.Needs.{needs}
 use Rattle.yard.proofs.value_day.Statement.{statement}
 use Rattle.yard.proofs.value_day.Tie as tie

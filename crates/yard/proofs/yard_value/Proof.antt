@@ -9,7 +9,7 @@ use Rattle.day.specs.Answer.{onGiven}
 use Rattle.day.specs.Sound.{dayLimits, yard}
 use Rattle.dayread.specs.Whole.{answer}
 use Rattle.valuing.specs.Valuing.{valued}
-use Rattle.yard.specs.Laws.{no-room, told}
+use Rattle.yard.specs.Laws.{no-value, told-value}
 use borrow.Author.Needs.{needs}
 use Rattle.yard.proofs.yard_value.Statement.{statement}
 use Rattle.yard.proofs.yard_value.Tie as tie
@@ -18,7 +18,7 @@ is-room-requires : tie.Need-is-room-requires
 is-room-requires c κs = search needs
 
 returns : tie.Need-returns
-returns c = no-room _ _ _ _ (sym (c .before .is-room .ensures) ∙ not-true (c .before .is-room .result) (c .if1 .taken))
+returns c = no-value _ _ _ _ (sym (c .before .is-room .ensures) ∙ not-true (c .before .is-room .result) (c .if1 .taken))
 
 read-day-requires : tie.Need-read-day-requires
 read-day-requires c κs = search needs
@@ -42,7 +42,7 @@ returns-2 : tie.Need-returns-2
 returns-2 c = let d = c .before .before .before .before .before .before in
     let e = sym (ap (λ o. answer o (yard (d .read-day .result .day))) (c .before .before .before .before .enum-told .given .1)) ∙ d .read-day .ensures .0 in
     let f = sym (ap (λ r. onGiven r λ y. valued dayLimits y (now (c .before .before .before .before .before .before .before .before .before .before .before .before .args .row))) e) in
-    told _ _ _ _ (sym (c .before .before .before .before .before .before .before .before .is-room .ensures) ∙ not-false (c .before .before .before .before .before .before .before .before .is-room .result) (c .before .before .before .before .before .before .before .if1 .left)) f (c .before .before .value-day .ensures)
+    told-value _ _ _ _ (sym (c .before .before .before .before .before .before .before .before .is-room .ensures) ∙ not-false (c .before .before .before .before .before .before .before .before .is-room .result) (c .before .before .before .before .before .before .before .if1 .left)) f (c .before .before .value-day .ensures)
 
 same-length-2 : tie.Need-same-length-2
 same-length-2 c = search needs
@@ -51,7 +51,7 @@ returns-3 : tie.Need-returns-3
 returns-3 c = let d = c .before .before .before .before .before .before .before in
     let e = sym (ap (λ o. answer o (yard (d .read-day .result .day))) (c .before .before .before .before .before .outcome .given .1)) ∙ d .read-day .ensures .0 in
     let f = sym (ap (λ r. onGiven r λ y. valued dayLimits y (now (c .before .before .before .before .before .before .before .before .before .before .before .before .before .args .row))) e) in
-    told _ _ _ _ (sym (c .before .before .before .before .before .before .before .before .before .is-room .ensures) ∙ not-false (c .before .before .before .before .before .before .before .before .before .is-room .result) (c .before .before .before .before .before .before .before .before .if1 .left)) f (c .before .before .tell .ensures)
+    told-value _ _ _ _ (sym (c .before .before .before .before .before .before .before .before .before .is-room .ensures) ∙ not-false (c .before .before .before .before .before .before .before .before .before .is-room .result) (c .before .before .before .before .before .before .before .before .if1 .left)) f (c .before .before .tell .ensures)
 
 pub yard-value-spec : {M : Type 1} → statement M
 yard-value-spec =

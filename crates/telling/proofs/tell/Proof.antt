@@ -1,9 +1,9 @@
--- `yard::tell` meets its contract. What the refusal carries is stored.
+-- `telling::tell` meets its contract. What the refusal carries is stored.
 -- Assumes nothing.
-use Rattle.yard.specs.Laws.{told-refusal}
+use Rattle.telling.specs.Laws.{told-refusal}
 use borrow.Author.Needs.{needs}
-use Rattle.yard.proofs.tell.Statement.{statement}
-use Rattle.yard.proofs.tell.Tie as tie
+use Rattle.telling.proofs.tell.Statement.{statement}
+use Rattle.telling.proofs.tell.Tie as tie
 
 in-numbers-requires : tie.Need-in-numbers-requires
 in-numbers-requires c κs = search needs

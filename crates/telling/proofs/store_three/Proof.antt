@@ -1,17 +1,11 @@
--- `yard::store_three` meets its contract. Three stores.
+-- `telling::store_three` meets its contract. Three stores.
 -- Assumes nothing.
 use native.Mathlib.Omega.{arith}
 use lib.ListN.{length-set}
-use Rattle.yard.specs.Laws.{set-three}
+use Rattle.telling.specs.Laws.{set-three}
 use borrow.Author.Needs.{needs}
-use Rattle.yard.proofs.store_three.Statement.{statement}
-use Rattle.yard.proofs.store_three.Tie as tie
-
--- `yard::store_three` meets its contract. Three stores.
--- Assumes nothing.
-
--- `yard::store_three` meets its contract. Three stores.
--- Assumes nothing.
+use Rattle.telling.proofs.store_three.Statement.{statement}
+use Rattle.telling.proofs.store_three.Tie as tie
 
 slice-write-numbers : tie.Need-slice-write-numbers
 slice-write-numbers c = search needs

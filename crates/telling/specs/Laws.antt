@@ -1,0 +1,59 @@
+-- The laws that the proofs of the functions on texts cite: what is told of a refusal, of three numbers, and where there is no room.
+-- Assumes nothing.
+use mathlib.Core.Path.{_≡_, refl, ap, _∙_, subst}
+use mathlib.Core.Bool.{true, false}
+use mathlib.Core.List.{List, [], _∷_, _++_}
+use Prim.Native.Nat.{ℕ, _≤_}
+use native.Mathlib.Omega.{arith}
+use lib.Dec.{leb}
+use lib.ListN.{length, set, drop}
+use Rattle.model.specs.Model.{Yard, Outcome}
+use Rattle.day.specs.Answer.{Answer, gives, refuses, refusal, code, number, carried}
+use Rattle.day.specs.declared.Limits.{Limits}
+use Rattle.day.specs.declared.Refusal.{Refusal}
+use Rattle.refusals.specs.Numbers.{Tells}
+use Rattle.refusals.specs.declared.Numbered.{Numbered}
+use Rattle.dayfile.specs.Reading.{readDay}
+use Rattle.telling.specs.Telling.{dayFor, three, numbersAfter}
+
+-- three numbers stored at the front
+pub set-three : (l : List ℕ) (a b c : ℕ) → 3 ≤ length l → set (set (set l 0 a) 1 b) 2 c ≡ a ∷ b ∷ c ∷ drop 3 l
+set-three [] a b c h = absurd (omega arith)
+set-three (x ∷ []) a b c h = absurd (omega arith)
+set-three (x ∷ y ∷ []) a b c h = absurd (omega arith)
+set-three (x ∷ y ∷ z ∷ l) a b c h = refl
+
+-- ---- what is told of an answer, where there is room
+
+pub record Told (before : List ℕ) (a : Answer Outcome) (said : ℕ) (after : List ℕ) : Type 0 where
+  pub says : said ≡ code a
+  pub numbers : after ≡ three a ++ drop 3 before
+
+pub told-refusal : (r : Refusal) (t : Numbered) {before after : List ℕ} → Tells (number r) (carried r) t
+    → after ≡ t .first ∷ t .second ∷ t .third ∷ drop 3 before → Told before (refusal r) (t .number) after
+told-refusal r t tells e = record { says = tells .number; numbers = e ∙ rw (tells .first, tells .second, tells .third) }
+
+pub told-values : {o : Outcome} {a : Answer Outcome} {before after : List ℕ} → gives o ≡ a → after ≡ three (gives o) ++ drop 3 before → Told before a 0 after
+told-values {o} {a} {before} e f = record { says = ap code e; numbers = f ∙ ap (λ x. three x ++ drop 3 before) e }
+
+pub told-same : {a b : Answer Outcome} {before after : List ℕ} {said : ℕ} → a ≡ b → Told before a said after → Told before b said after
+told-same {a} {b} {before} {after} {said} e t = subst (λ x. Told before x said after) e t
+
+-- told, the numbers are those of the contracts
+pub told-after : {a : Answer Outcome} {said : ℕ} {before after : List ℕ} → leb 3 (length before) ≡ true → Told before a said after → after ≡ numbersAfter a before
+unfolding numbersAfter
+told-after h t = rw h (t .numbers)
+
+-- without room no number changes, whatever is answered
+pub none-told : (a : Answer Outcome) (before : List ℕ) → leb 3 (length before) ≡ false → before ≡ numbersAfter a before
+unfolding numbersAfter
+none-told a before h = rw h
+
+-- ---- the day of a text, with room for three numbers and without
+
+module _ (l : Limits) (text : List ℕ) (size : ℕ) where
+  pub no-room : leb 3 size ≡ false → dayFor l text size ≡ refuses 10 (0 ∷ [])
+  no-room h = rw h
+
+  pub with-room : leb 3 size ≡ true → {a : Answer Yard} → readDay l text ≡ a → dayFor l text size ≡ a
+  with-room h e = rw h e

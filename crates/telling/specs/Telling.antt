@@ -1,0 +1,31 @@
+-- What a caller who lends room for numbers is told about the day of a text: three numbers, or what the refusal carries.
+-- Assumes nothing.
+use mathlib.Core.Bool.{cond}
+use mathlib.Core.List.{List, [], _∷_, _++_}
+use Prim.Native.Nat.{ℕ}
+use lib.Dec.{leb}
+use lib.ListN.{length, getD, drop}
+use Rattle.model.specs.Model.{Yard, Outcome}
+use Rattle.day.specs.Answer.{Answer, gives, refuses, onGiven, must, checked}
+use Rattle.day.specs.declared.Limits.{Limits}
+use Rattle.dayfile.specs.Reading.{readDay}
+
+-- ---- the day of a text, for a caller who lends room for `size` numbers: 10 where these are fewer than three, else what reading answers
+
+abbrev pub dayFor : Limits → List ℕ → ℕ → Answer Yard
+dayFor l text size = checked (must (leb 3 size) 10 (0 ∷ []) ∷ []) (readDay l text)
+
+-- what is answered for that day
+abbrev pub forDay : {X : Type 0} → Limits → List ℕ → ℕ → (Yard → Answer X) → Answer X
+forDay l text size f = onGiven (dayFor l text size) f
+
+-- ---- the numbers
+
+-- revisits, split moves and cost, or what the refusal carries, 0 where it carries fewer than three values
+abbrev pub three : Answer Outcome → List ℕ
+three (gives o) = o .revisits ∷ o .splits ∷ o .cost ∷ []
+three (refuses k carries) = getD carries 0 0 ∷ getD carries 1 0 ∷ getD carries 2 0 ∷ []
+
+-- where there is room for them they are the first three numbers, and those beyond stay
+unfoldable pub numbersAfter : Answer Outcome → List ℕ → List ℕ
+numbersAfter a numbers = cond (leb 3 (length numbers)) (three a ++ drop 3 numbers) numbers

@@ -1,0 +1,91 @@
+-- `textplan::plan_day` meets its contract. By the two cases of planning's answer.
+-- Assumes nothing.
+use mathlib.Core.Path.{refl, sym, ap, _∙_}
+use Rattle.day.specs.Sound.{dayLimits, yard}
+use Rattle.planning.specs.Planning.{answer}
+use Rattle.telling.specs.Laws.{told-values}
+use Rattle.textplan.specs.Laws.{Leaves, plans-told}
+use borrow.Author.Needs.{needs}
+use Rattle.textplan.proofs.plan_day.Statement.{statement}
+use Rattle.textplan.proofs.plan_day.Tie as tie
+
+-- where the function began, and what planning has left of the day
+abbrev start : tie.After-plan → tie.Start
+start p = p .before .before .before .before .before .before .before .before
+
+left : (p : tie.After-plan)
+    → let a = start p .args in
+    let l = p .plan .last .1 in
+    Leaves dayLimits (yard (a .day)) (a .cost .now) (a .choice .now) (a .row .now) (l .0) (l .1 .0) (l .1 .1 .0)
+left p = let e = p .plan .ensures .1 in record { rowIs = e .0; costs = e .1 .0; choices = e .1 .1 }
+
+plan-requires : tie.Need-plan-requires
+plan-requires c κs = search needs
+
+enum-known-value : tie.Need-enum-known-value
+enum-known-value c = search needs
+
+store-value-requires : tie.Need-store-value-requires
+store-value-requires c κs = search needs
+
+enum-known-refusal : tie.Need-enum-known-refusal
+enum-known-refusal c = search needs
+
+tell-requires : tie.Need-tell-requires
+tell-requires c κs = search needs
+
+same-length : tie.Need-same-length
+same-length c = search needs
+
+same-length-2 : tie.Need-same-length-2
+same-length-2 c = search needs
+
+same-length-3 : tie.Need-same-length-3
+same-length-3 c = search needs
+
+same-length-4 : tie.Need-same-length-4
+same-length-4 c = search needs
+
+returns : tie.Need-returns
+returns c =
+    let p = c .before .before .before .before .before .before .before .before .before .before .before .before .before in
+    let q = sym (ap answer (c .before .before .before .before .before .value .given .1)) ∙ p .plan .ensures .0 in
+    plans-told dayLimits (yard (start p .args .day)) q (left p) (told-values refl (c .before .before .store-value .ensures)) refl
+
+same-length-5 : tie.Need-same-length-5
+same-length-5 c = search needs
+
+same-length-6 : tie.Need-same-length-6
+same-length-6 c = search needs
+
+same-length-7 : tie.Need-same-length-7
+same-length-7 c = search needs
+
+same-length-8 : tie.Need-same-length-8
+same-length-8 c = search needs
+
+returns-2 : tie.Need-returns-2
+returns-2 c =
+    let p = c .before .before .before .before .before .before .before .before .before .before .before .before .before in
+    let q = sym (ap answer (c .before .before .before .before .before .refusal .given .1)) ∙ p .plan .ensures .0 in
+    plans-told dayLimits (yard (start p .args .day)) q (left p) (c .before .before .tell .ensures) refl
+
+pub plan-day-spec : {M : Type 1} → statement M
+plan-day-spec =
+    tie.close
+    (tie.spec
+    plan-requires
+    enum-known-value
+    store-value-requires
+    enum-known-refusal
+    tell-requires
+    same-length
+    same-length-2
+    same-length-3
+    same-length-4
+    returns
+    same-length-5
+    same-length-6
+    same-length-7
+    same-length-8
+    returns-2)
