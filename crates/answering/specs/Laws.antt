@@ -2,17 +2,14 @@
 -- the answer to a text from what reading has.
 -- Assumes nothing.
 use mathlib.Core.Path.{_≡_, refl, sym, ap, _∙_}
-use mathlib.Core.Bool.{cond, _&&_}
+use mathlib.Core.Bool.{cond}
 use mathlib.Core.List.{List, [], _∷_, _++_}
 use mathlib.Core.Option.{Option, none, some}
-use Prim.Native.Nat.{ℕ, _+_, _^_, _≤_, zero-le}
-use native.Mathlib.Nat.{mul-le-mul}
+use Prim.Native.Nat.{ℕ, _+_, _≤_, zero-le}
 use native.Mathlib.Omega.{arith}
-use lib.Dec.{T, eqb, leb, le→leb}
+use lib.Dec.{T, eqb}
 use lib.ListN.{length, getD, drop, length-append, List·getD-append}
-use lib.Pow.{pow-mono}
 use borrow.Author.Tests.{ne-eqb}
-use Rattle.fold.specs.Test.{both}
 use Rattle.fold.specs.Listed.{listed-ext}
 use Rattle.model.specs.Model.{Yard, Outcome, outcome}
 use Rattle.model.specs.BestOf.{bestOf, is-best}
@@ -27,7 +24,7 @@ use Rattle.day.specs.declared.Refusal.{Refusal}
 use Rattle.lines.specs.Lines.{rowText, rowsText}
 use Rattle.lines.specs.RowSize.{mostInRow, digits-size, row-size}
 use Rattle.dayfile.specs.Reading.{readDay}
-use Rattle.planning.specs.Planning.{begins, suffices, costWords, choiceWords, bestAnswer, placed}
+use Rattle.planning.specs.Planning.{bestAnswer, placed}
 use Rattle.planfile.specs.PlanText.{valueNames, slotNames, slotRow, planLines}
 use Rattle.planfile.specs.Size.{planBytes, plan-size, plan-most}
 use Rattle.answering.specs.Answering.{lineNames, intervalNames, refusalText, dayReply, reply, answerText}
@@ -78,17 +75,6 @@ other-fits k a h i =
       row-size (word ∷ word ∷ []) (k ∷ a ∷ []) refl ((zero-le, h), ((zero-le, i), tt)),
       word-digits,
     )
-
--- ---- the areas of 4,096 and 32,768 words and the row of 12 bytes suffice for every sound day
-
-pub begun : (y : Yard) → T (sound dayLimits y) → T (begins dayLimits y 4096 32768 12)
-begun y s =
-    let is = sound-is dayLimits y s in
-    let sets : 2 ^ y .trains ≤ 4096 = pow-mono (is .trains .1) in
-    both (sound dayLimits y) (suffices y 4096 32768 12) s
-    (both (leb (costWords y) 4096 && leb (choiceWords y) 32768) (leb (y .trains) 12)
-    (both (leb (costWords y) 4096) (leb (choiceWords y) 32768) (le→leb _ _ sets) (le→leb _ _ (mul-le-mul (is .slots .1) sets)))
-    (le→leb _ _ (is .trains .1)))
 
 -- ---- the reply to a sound day, from planning's answer and its row
 

@@ -3,3 +3,4 @@ pub mod Fold
 pub mod Sums
 pub mod Counting
 pub mod Listed
+pub mod Table

@@ -1,24 +1,51 @@
--- What follows from planning's answer alone: a plan is the best row of a sound day, its refusals are 8, 10 and 9, and a row of as many bytes
--- as a day may have trains is as good as one of n.
+-- What follows from planning's answer alone: where both checks hold it is the best plan or 9, and 4,096 and 32,768 words suffice for every
+-- sound day; a plan is the best row of a sound day; its refusals are 8, 10 and 9; and a row of as many bytes as a day may have trains is as
+-- good as one of n.
 -- Assumes nothing.
 use mathlib.Core.Path.{_≡_, refl, sym, ap, _∙_}
 use mathlib.Core.Bool.{Bool, true, false, cond, _&&_}
 use mathlib.Core.List.{List, [], _∷_}
 use mathlib.Core.Logic.{_⊎_, inl, inr}
 use mathlib.Core.Option.{Option, none, some}
-use Prim.Native.Nat.{ℕ}
+use Prim.Native.Nat.{ℕ, _^_, _≤_}
+use native.Mathlib.Nat.{mul-le-mul}
 use native.Mathlib.Omega.{arith}
-use lib.Dec.{T, leb}
+use lib.Dec.{T, leb, le→leb}
+use lib.ListN.{length}
+use lib.Pow.{pow-mono}
 use borrow.Author.Tests.{le-leb}
-use Rattle.fold.specs.Test.{of-true}
+use Rattle.fold.specs.Test.{is-true, of-true, both, both-of}
 use Rattle.model.specs.Model.{Yard, Outcome, outcome, Best}
 use Rattle.model.specs.BestOf.{bestOf, is-best}
 use Rattle.day.specs.Answer.{gives, refuses, code}
-use Rattle.day.specs.AnswerLaws.{gives-same, checked-gives}
-use Rattle.day.specs.Sound.{sound}
+use Rattle.day.specs.AnswerLaws.{gives-same, checked-holds, checked-gives}
+use Rattle.day.specs.Sound.{dayLimits, sound}
 use Rattle.day.specs.SoundLaws.{sound-is}
 use Rattle.day.specs.declared.Limits.{Limits}
-use Rattle.planning.specs.Planning.{suffices, bestAnswer, planChecks, planned, begins}
+use Rattle.planning.specs.Planning.{costWords, choiceWords, suffices, bestAnswer, planChecks, planned, begins, placed, rowAfter}
+
+-- ---- where both checks hold
+
+module _ (l : Limits) (y : Yard) (costs choices : ℕ) where
+  pub planned-begun : (bytes : ℕ) → T (begins l y costs choices bytes) → planned l y costs choices bytes ≡ bestAnswer y (bestOf y)
+  unfolding planned
+  planned-begun bytes begun =
+      let (s, e) = both-of (sound l y) (suffices y costs choices bytes) begun in
+      checked-holds (planChecks l y costs choices bytes) (bestAnswer y (bestOf y)) (s, (e, tt))
+
+  pub row-begun : (row : List ℕ) → T (begins l y costs choices (length row)) → rowAfter l y costs choices row ≡ placed (bestOf y) row
+  unfolding rowAfter
+  row-begun row begun = ap (λ b. cond b (placed (bestOf y) row) row) (is-true (begins l y costs choices (length row)) begun)
+
+-- the areas that callers without areas of their own lend
+pub areas-suffice : (y : Yard) (bytes : ℕ) → T (sound dayLimits y) → y .trains ≤ bytes → T (begins dayLimits y 4096 32768 bytes)
+areas-suffice y bytes s r =
+    let is = sound-is dayLimits y s in
+    let sets : 2 ^ y .trains ≤ 4096 = pow-mono (is .trains .1) in
+    both (sound dayLimits y) (suffices y 4096 32768 bytes) s
+    (both (leb (costWords y) 4096 && leb (choiceWords y) 32768) (leb (y .trains) bytes)
+    (both (leb (costWords y) 4096) (leb (choiceWords y) 32768) (le→leb _ _ sets) (le→leb _ _ (mul-le-mul (is .slots .1) sets)))
+    (le→leb _ _ r))
 
 -- ---- a plan
 

@@ -1,28 +1,36 @@
--- Sample texts and what each reads to, as one table, and the one theorem that every line holds:
+-- Sample texts and what each reads to, and what writing answers for outputs of some lengths, as one table, and the one theorem that every
+-- line holds:
 --     every-line : (l : Line) → List·Memᴰ l table → Holds l
 -- The checker computes one test over the whole table; `line-holds` turns a line's test into its statement. That an accepted text is
 -- written as the same bytes follows from `read-write`.
 -- Assumes nothing.
-use mathlib.Core.Path.{_≡_, refl, sym, ap, ap₂, subst}
+use mathlib.Core.Path.{_≡_, refl, sym}
 use mathlib.Core.Bool.{Bool, true, false, cond, _&&_}
-use mathlib.Core.Logic.{⊎-elim}
-use mathlib.Core.List.{List, [], _∷_, _++_, List·Memᴰ, List·Memᴰ·not-nil, List·Memᴰ·cases-cons}
+use mathlib.Core.List.{List, [], _∷_, _++_, List·Memᴰ}
 use Prim.Native.Nat.{ℕ, _+_}
 use Prim.Native.String.{String}
 use lib.Dec.{T, eqb, eqb→eq}
 use lib.ListN.{length, getD}
 use Rattle.fold.specs.Test.{both-of, sameList, same-list}
-use Rattle.fold.specs.Fold.{lowest}
-use Rattle.fold.specs.Listed.{joined}
-use Rattle.model.specs.Model.{Yard}
+use Rattle.fold.specs.Fold
+use Rattle.fold.specs.Fold.{sum, count, each, lowest}
+use Rattle.fold.specs.Table.{allPass, all-hold}
+use Rattle.fold.specs.Listed.{listed, joined}
+use Rattle.model.specs.Model.{Yard, lateSupplier, revisiting, revisits, splitBoxes, splitsTo, splits, weighed, inWindow, load, roomy}
 use Rattle.day.specs.Answer.{Answer, gives, refuses}
-use Rattle.day.specs.Sound.{dayLimits, yard, within, headRanges, trainRanges, moveRanges, headRow}
+use Rattle.day.specs.Sound.{dayLimits, yard, within, headRanges, trainRanges, moveRanges, headRow, shaped, sound, numberBefore, trainSound, unused, positionSound, pairSound, receiverSound}
 use Rattle.day.specs.declared.Day.{Day}
-use Rattle.table.specs.Days.{move, openDay, paperDay, numbered}
+use Rattle.table.specs.Days.{move, dayOf, openDay, paperDay, numbered}
+use Rattle.table.specs.Lines.{sameAnswer, same-answer}
 use Rattle.decimal.specs.Decimal.{more, value, digitsWithin}
-use Rattle.lines.specs.Lines.{ascii, byte, names, field, row}
-use Rattle.dayfile.specs.Reading.{headNames, trainNames, moveNames, position, readTrains, readMoves, readFile, stored, dayOf, readDay}
-use Rattle.dayfile.specs.Writing.{dayText}
+use Rattle.lines.specs.Lines.{ascii, byte, names, field, row, rowText, rowsText}
+use Rattle.output.specs.Output.{writes}
+use Rattle.valuing.specs.Valuing.{strays, overfull, rowChecks}
+use Rattle.planfile.specs.PlanText.{valueNames, slotNames, planLines, planText}
+use Rattle.dayfile.specs.Reading
+use Rattle.dayfile.specs.Reading.{headNames, trainNames, moveNames, position, readTrains, readMoves, readFile, stored, readDay}
+use Rattle.dayfile.specs.Writing.{fileText, moveRows, fileOf, dayText}
+use Rattle.dayfile.specs.Calls.{dayChecks}
 use Rattle.dayfile.specs.RoundTrip.{read-write}
 use Rattle.dayfile.specs.Size.{dayBytes}
 
@@ -32,6 +40,8 @@ pub data Line : Type 0 where
   accepted : List ℕ → Day → Line
   acceptedSame : List ℕ → Line
   refused : List ℕ → ℕ → ℕ → Line
+  writesDay : Day → ℕ → Answer ℕ → Line
+  writesPlan : Day → List ℕ → ℕ → Answer ℕ → Line
 
 abbrev pub Holds : Line → Type 0
 -- the text reads to this day, and the day is written as the same bytes
@@ -40,6 +50,9 @@ Holds (accepted text d) = (readDay dayLimits text ≡ gives (yard d)) × (dayTex
 Holds (acceptedSame text) = (y : Yard) × (readDay dayLimits text ≡ gives y) × (dayText y ≡ text)
 -- the text is refused with this number and this line
 Holds (refused text k line) = readDay dayLimits text ≡ refuses k (line ∷ [])
+-- writing the day, or the plan of a row, into an output of so many bytes gives this answer
+Holds (writesDay d bytes a) = writes (dayChecks dayLimits (yard d)) (dayText (yard d)) bytes ≡ a
+Holds (writesPlan d row bytes a) = writes (rowChecks dayLimits (yard d) row) (planText (yard d) row) bytes ≡ a
 
 -- ---- texts
 
@@ -73,7 +86,7 @@ fullFile =
 -- ---- the table
 
 unfoldable pub table : List Line
-unfolding file withMoves withHead withTrains fullFile openDay paperDay numbered
+unfolding file withMoves withHead withTrains fullFile dayOf openDay paperDay numbered
 table =
     -- P1
     accepted (ascii "trains tracks slots revisit split\n4 2 2 1 1\ntrain first last\n1 1 2\n2 1 2\n3 1 2\n4 1 2\nto from boxes\n1 4 1\n3 1 3\n3 4 5\n4 2 6\n4 3 1\n") (paperDay 1 1 1)
@@ -88,8 +101,8 @@ table =
     -- the other two names lines
     ∷ refused (ascii "trains tracks slots revisit split\n1 2 2 1 1\ntrain last first\n1 1 2\nto from boxes\n") 1 3
     ∷ refused (ascii "trains tracks slots revisit split\n1 2 2 1 1\ntrain first last\n1 1 2\nfrom to boxes\n") 1 5
-    -- the limits: 12 trains and 13, 12 tracks and 13, 8 slots and 9, weights 65535 and 65536, boxes 255 and 256; train numbers
-    -- 99999, and one more has six digits; numbers are compared as numbers, 9 before 10000
+    -- the limits of the head on both sides: 1 and 12 trains, 0 and 13; 1 and 12 tracks, 0 and 13; 1 and 8 slots, 0 and 9; weights 0 and
+    -- 65535, 65536. Train numbers 1 and 99999, 0, and one more than 99999 has six digits; numbers are compared as numbers, 9 before 10000
     ∷ accepted (file "12 12 8 1 1\n" "1 1 8\n2 1 8\n3 1 8\n4 1 8\n5 1 8\n6 1 8\n7 1 8\n8 1 8\n9 1 8\n10 1 8\n11 1 8\n12 1 8\n" "") (openDay 12 12 8 [])
     ∷ refused (file "13 12 8 1 1\n" "1 1 8\n2 1 8\n3 1 8\n4 1 8\n5 1 8\n6 1 8\n7 1 8\n8 1 8\n9 1 8\n10 1 8\n11 1 8\n12 1 8\n13 1 8\n" "") 3 2
     ∷ refused (file "0 2 2 1 1\n" "" "") 3 2
@@ -109,8 +122,15 @@ table =
     ∷ refused (file "2 1 2 1 1\n" "10000 1 2\n9 1 2\n" "") 4 5
     ∷ refused (file "2 1 2 1 1\n" "9 1 2\n10000 1 2\n" "10000 9 1\n9 10000 1\n") 7 8
     ∷ refused (withTrains "0 1 2\n2 1 2\n3 1 2\n4 1 2\n") 3 4
+    -- first and last slots: 1 and T, 0 and T + 1
+    ∷ accepted (file "1 1 1 0 0\n" "1 1 1\n" "") (dayOf 1 1 1 0 0 (1 ∷ []) (1 ∷ []) [])
+    ∷ accepted (file "2 1 2 1 1\n" "1 1 1\n2 2 2\n" "") (dayOf 2 1 2 1 1 (1 ∷ 2 ∷ []) (1 ∷ 2 ∷ []) [])
     ∷ refused (withTrains "1 0 2\n2 1 2\n3 1 2\n4 1 2\n") 3 4
+    ∷ refused (withTrains "1 1 2\n2 3 3\n3 1 2\n4 1 2\n") 3 5
+    ∷ refused (withTrains "1 1 2\n2 1 2\n3 1 2\n7 1 0\n") 3 7
     ∷ refused (withTrains "1 1 2\n2 1 3\n3 1 2\n4 1 2\n") 3 5
+    -- boxes 1 and 255, 0 and 256; train numbers of moves
+    ∷ accepted (file "2 1 2 1 1\n" "1 1 2\n2 1 2\n" "1 2 1\n") (openDay 2 1 2 (move 1 2 1 ∷ []))
     ∷ accepted (file "2 1 2 1 1\n" "1 1 2\n2 1 2\n" "1 2 255\n") (openDay 2 1 2 (move 1 2 255 ∷ []))
     ∷ refused (withMoves "1 2 256\n") 3 9
     ∷ refused (withMoves "1 2 0\n") 3 9
@@ -167,10 +187,15 @@ table =
     ∷ refused (withTrains "1 1 2\n2 1 2\n3 1 2\n") 2 7
     -- in one line: the form before the limits, then 3, 4, 5, and 3, 6, 7; of two lines the first
     ∷ refused (withHead "13 2 2 1 x\n") 2 2
+    ∷ refused (withTrains "1 1 2\n0 1 x\n3 1 2\n4 1 2\n") 2 5
     ∷ refused (withTrains "1 1 2\n5 1 2\n3 9 1\n7 1 2\n") 3 6
+    ∷ refused (withTrains "1 1 2\n5 1 2\n3 1 9\n7 1 2\n") 3 6
+    ∷ refused (withTrains "1 1 2\n5 1 2\n6 3 1\n7 1 2\n") 3 6
     ∷ refused (withTrains "1 1 2\n5 1 2\n3 2 1\n7 1 2\n") 4 6
     ∷ refused (withTrains "1 1 2\n5 1 2\n6 2 1\n7 1 2\n") 5 6
+    ∷ refused (withMoves "4 3 1\n3 x 0\n") 2 10
     ∷ refused (withMoves "4 3 1\n3 3 0\n") 3 10
+    ∷ refused (withMoves "4 3 1\n3 4 0\n") 3 10
     ∷ refused (withMoves "4 3 1\n3 3 1\n") 6 10
     ∷ refused (withMoves "4 3 1\n3 4 1\n") 7 10
     ∷ refused (withTrains "1 1 2\n2 2 1\n2 1 3\n1 01 2\n") 5 5
@@ -184,6 +209,17 @@ table =
     -- the longest file, and one row more
     ∷ acceptedSame fullFile
     ∷ refused (fullFile ++ ascii "99999 99998 255\n") 7 149
+    -- writing a day into an output that is just long enough, and one byte short; 8 before 10
+    ∷ writesDay (paperDay 1 1 1) 129 (gives 129)
+    ∷ writesDay (paperDay 1 1 1) 128 (refuses 10 (0 ∷ []))
+    ∷ writesDay (paperDay 65536 1 1) 0 (refuses 8 (0 ∷ []))
+    -- the same of a plan; 8 before 11 before 12 before 13 before 10
+    ∷ writesPlan (paperDay 1 1 1) (2 ∷ 1 ∷ 2 ∷ 1 ∷ []) 54 (gives 54)
+    ∷ writesPlan (paperDay 1 1 1) (2 ∷ 1 ∷ 2 ∷ 1 ∷ []) 53 (refuses 10 (0 ∷ []))
+    ∷ writesPlan (paperDay 65536 1 1) [] 0 (refuses 8 (0 ∷ []))
+    ∷ writesPlan (paperDay 1 1 1) (0 ∷ 0 ∷ 0 ∷ []) 0 (refuses 11 (0 ∷ []))
+    ∷ writesPlan (paperDay 1 1 2) (1 ∷ 1 ∷ 1 ∷ 1 ∷ []) 0 (refuses 12 (4 ∷ []))
+    ∷ writesPlan (paperDay 1 1 1) (1 ∷ 2 ∷ 2 ∷ 2 ∷ []) 0 (refuses 13 (2 ∷ []))
     ∷ []
 
 -- ---- the test of a line
@@ -193,30 +229,20 @@ sameYard y z =
     sameList (headRow y) (headRow z) && sameList (y .numbers) (z .numbers) && sameList (y .first) (z .first) && sameList (y .last) (z .last)
     && eqb (y .width) (z .width) && sameList (y .boxes) (z .boxes)
 
-isDay : Answer Yard → Yard → Bool
-isDay (gives y) z = sameYard y z
-isDay (refuses k carries) z = false
-
 isGiven : Answer Yard → Bool
 isGiven (gives y) = true
 isGiven (refuses k carries) = false
 
-isRefused : Answer Yard → ℕ → List ℕ → Bool
-isRefused (gives y) m carried = false
-isRefused (refuses k carries) m carried = eqb k m && sameList carries carried
-
 passes : Line → Bool
-passes (accepted text d) = isDay (readDay dayLimits text) (yard d)
+passes (accepted text d) = sameAnswer sameYard (readDay dayLimits text) (gives (yard d))
 passes (acceptedSame text) = isGiven (readDay dayLimits text)
-passes (refused text k line) = isRefused (readDay dayLimits text) k (line ∷ [])
-
-allPass : List Line → Bool
-allPass [] = true
-allPass (l ∷ ls) = passes l && allPass ls
+passes (refused text k line) = sameAnswer sameYard (readDay dayLimits text) (refuses k (line ∷ []))
+passes (writesDay d bytes a) = sameAnswer eqb (writes (dayChecks dayLimits (yard d)) (dayText (yard d)) bytes) a
+passes (writesPlan d row bytes a) = sameAnswer eqb (writes (rowChecks dayLimits (yard d) row) (planText (yard d) row) bytes) a
 
 -- the one computation
-computed : T (allPass table)
-unfolding allPass passes sameYard isDay isGiven isRefused sameList table readDay readFile readTrains readMoves headNames trainNames moveNames position stored dayOf byte names field row more value within headRanges trainRanges moveRanges lowest
+computed : T (allPass passes table)
+unfolding allPass passes sameYard isGiven sameAnswer sameList table readDay readFile readTrains readMoves headNames trainNames moveNames position stored Reading.dayOf byte names field row more value within headRanges trainRanges moveRanges lowest writes dayText fileOf fileText moveRows listed joined rowText rowsText digitsWithin planLines valueNames slotNames sound shaped positionSound trainSound numberBefore unused receiverSound pairSound each Fold.some sum count lateSupplier revisiting revisits splitBoxes splitsTo splits weighed inWindow load roomy strays overfull
 computed = tt
 
 -- the bound of `accepted-size` (the day file's Size.antt) is reached
@@ -258,39 +284,22 @@ same-yard y z t =
       boxes = bs i;
     }
 
-is-day : (a : Answer Yard) (z : Yard) → T (isDay a z) → a ≡ gives z
-unfolding isDay
-is-day (gives y) z t = ap gives (same-yard y z t)
-is-day (refuses k carries) z t = absurd t
-
 is-given : (a : Answer Yard) → T (isGiven a) → (y : Yard) × (a ≡ gives y)
 unfolding isGiven
 is-given (gives y) t = (y, refl)
 is-given (refuses k carries) t = absurd t
 
-is-refused : (a : Answer Yard) (m : ℕ) (carried : List ℕ) → T (isRefused a m carried) → a ≡ refuses m carried
-unfolding isRefused
-is-refused (gives y) m carried t = absurd t
-is-refused (refuses k carries) m carried t =
-    let (p, q) = both-of (eqb k m) (sameList carries carried) t in
-    ap₂ refuses (eqb→eq k m p) (same-list carries carried q)
-
 line-holds : (l : Line) → T (passes l) → Holds l
 unfolding passes
 line-holds (accepted text d) t =
-    let reads = is-day (readDay dayLimits text) (yard d) t in
+    let reads = same-answer sameYard same-yard (readDay dayLimits text) (gives (yard d)) t in
     (reads, sym (read-write dayLimits text (yard d) reads))
 line-holds (acceptedSame text) t =
     let (y, reads) = is-given (readDay dayLimits text) t in
     (y, reads, sym (read-write dayLimits text y reads))
-line-holds (refused text k line) t = is-refused (readDay dayLimits text) k (line ∷ []) t
-
-all-hold : (ls : List Line) → T (allPass ls) → (l : Line) → List·Memᴰ l ls → Holds l
-unfolding allPass
-all-hold [] t l m = absurd (List·Memᴰ·not-nil m)
-all-hold (x ∷ ls) t l m =
-    let (here, rest) = both-of (passes x) (allPass ls) t in
-    ⊎-elim (λ e. subst Holds (sym e) (line-holds x here)) (λ n. all-hold ls rest l n) (List·Memᴰ·cases-cons m)
+line-holds (refused text k line) t = same-answer sameYard same-yard (readDay dayLimits text) (refuses k (line ∷ [])) t
+line-holds (writesDay d bytes a) t = same-answer eqb eqb→eq (writes (dayChecks dayLimits (yard d)) (dayText (yard d)) bytes) a t
+line-holds (writesPlan d row bytes a) t = same-answer eqb eqb→eq (writes (rowChecks dayLimits (yard d) row) (planText (yard d) row) bytes) a t
 
 pub every-line : (l : Line) → List·Memᴰ l table → Holds l
-every-line = all-hold table computed
+every-line = all-hold passes Holds line-holds table computed

@@ -16,6 +16,7 @@ use Rattle.day.specs.Answer.{Answer, gives, refuses}
 use Rattle.day.specs.Sound.{dayLimits, yard, sound}
 use Rattle.day.specs.declared.Day.{Day}
 use Rattle.valuing.specs.Valuing.{valued}
+use Rattle.planning.specs.Planning.{planned}
 use Rattle.baselines.specs.Baselines.{Comparison, compared}
 
 -- ---- what a line says
@@ -26,7 +27,9 @@ pub data Line : Type 0 where
   later : Day → List ℕ → List ℕ → ℕ → Line
   refused : Day → ℕ → ℕ → ℕ → Line
   accepted : Day → Bool → Line
+  plans : Day → ℕ → ℕ → ℕ → Answer Outcome → Line
   compares : (Yard → List ℕ) → Day → List ℕ → Answer Comparison → Line
+  comparesIn : ℕ → ℕ → (Yard → List ℕ) → Day → Answer Comparison → Line
 
 abbrev pub Holds : Line → Type 0
 -- valuing the row gives this answer
@@ -40,9 +43,13 @@ Holds (later d r s c) =
 Holds (refused d a b k) = NoRow (yard d) × FirstOverbooked (yard d) a b × (boundInside (yard d) a b ≡ k)
 -- the record is sound, or not
 Holds (accepted d b) = sound dayLimits (yard d) ≡ b
+-- planning, lent so many words of cost, words of choice and bytes of row, gives this answer
+Holds (plans d costs choices bytes a) = planned dayLimits (yard d) costs choices bytes ≡ a
 -- the procedure gives this row, with slot 0 for a train without one, and comparing it with the best plan gives this answer, where the
 -- areas are long enough for every day
 Holds (compares procedure d row a) = (procedure (yard d) ≡ row) × (compared dayLimits (yard d) (procedure (yard d)) 4096 32768 ≡ a)
+-- comparing, lent so many words of cost and of choice, gives this answer
+Holds (comparesIn costs choices procedure d a) = compared dayLimits (yard d) (procedure (yard d)) costs choices ≡ a
 
 -- ---- the test of a line
 
@@ -82,9 +89,11 @@ passes (best d row o) = isRow (bestOf (yard d)) row && sameOutcome (outcome (yar
 passes (later d r s c) =
     allowed (yard d) r && allowed (yard d) s && eqb (cost (yard d) r) c && eqb (cost (yard d) s) c && precedes (yard d) r s
 passes (refused d a b k) = isNone (bestOf (yard d)) && isInterval (firstOverbooked (yard d)) a b && eqb (boundInside (yard d) a b) k
+passes (plans d costs choices bytes a) = sameAnswer sameOutcome (planned dayLimits (yard d) costs choices bytes) a
 passes (accepted d b) = cond b (sound dayLimits (yard d)) (not (sound dayLimits (yard d)))
 passes (compares procedure d row a) =
     sameList (procedure (yard d)) row && sameAnswer sameComparison (compared dayLimits (yard d) (procedure (yard d)) 4096 32768) a
+passes (comparesIn costs choices procedure d a) = sameAnswer sameComparison (compared dayLimits (yard d) (procedure (yard d)) costs choices) a
 
 -- ---- from the test to the statement
 
@@ -113,7 +122,7 @@ same-comparison a b t =
     let se = same-int (a .saving) (b .saving) s in
     λ i. record { outcome = oe i; saving = se i }
 
-same-answer : {X : Type 0} (same : X → X → Bool) → ((a b : X) → T (same a b) → a ≡ b) → (a b : Answer X) → T (sameAnswer same a b) → a ≡ b
+pub same-answer : {X : Type 0} (same : X → X → Bool) → ((a b : X) → T (same a b) → a ≡ b) → (a b : Answer X) → T (sameAnswer same a b) → a ≡ b
 unfolding sameAnswer
 same-answer same is (gives a) (gives b) t = ap gives (is a b t)
 same-answer same is (gives a) (refuses m cs) t = absurd t
@@ -172,7 +181,9 @@ line-holds (best d row o) t =
 line-holds (later d r s c) t = later-holds d r s c t
 line-holds (refused d a b k) t = refused-holds d a b k t
 line-holds (accepted d b) t = accepted-holds d b t
+line-holds (plans d costs choices bytes a) t = same-answer sameOutcome same-outcome (planned dayLimits (yard d) costs choices bytes) a t
 line-holds (compares procedure d row a) t =
     let found = compared dayLimits (yard d) (procedure (yard d)) 4096 32768 in
     let (p, q) = both-of (sameList (procedure (yard d)) row) (sameAnswer sameComparison found a) t in
     (same-list (procedure (yard d)) row p, same-answer sameComparison same-comparison found a q)
+line-holds (comparesIn costs choices procedure d a) t = same-answer sameComparison same-comparison (compared dayLimits (yard d) (procedure (yard d)) costs choices) a t

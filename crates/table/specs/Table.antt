@@ -4,15 +4,14 @@
 -- What a line says is `Holds` of Lines.antt. The checker computes one test over the whole table; `line-holds` turns a line's test into its
 -- statement. "The best plan" speaks of every row, through the enumeration of the model's Rows.antt, which is proved complete.
 -- Assumes nothing.
-use mathlib.Core.Path.{sym, subst}
-use mathlib.Core.Bool.{Bool, true, false, _&&_}
-use mathlib.Core.Logic.{⊎-elim}
-use mathlib.Core.List.{List, [], _∷_, List·Memᴰ, List·Memᴰ·not-nil, List·Memᴰ·cases-cons}
+use mathlib.Core.Bool.{true, false}
+use mathlib.Core.List.{List, [], _∷_, List·Memᴰ}
 use Prim.Native.Nat.{ℕ}
 use lib.Dec.{T}
 use lib.IntN.{pos}
 use lib.ListN.{replicate}
-use Rattle.fold.specs.Test.{both-of, sameList}
+use Rattle.fold.specs.Test.{sameList}
+use Rattle.fold.specs.Table.{allPass, all-hold}
 use Rattle.fold.specs.Fold
 use Rattle.fold.specs.Fold.{sum, count, each, lowest}
 use Rattle.sets.specs.Mask.{mask}
@@ -27,7 +26,7 @@ use Rattle.valuing.specs.Valuing.{valued, strays, overfull}
 use Rattle.planning.specs.Planning.{planned}
 use Rattle.procedures.specs.Procedures.{inTime, trackFree, waits, suits, earliest, comeTo, firstCome, waitingSupplier, outsideBoxes, priority, select, fillTo, servedTo, myopic}
 use Rattle.baselines.specs.Baselines.{Comparison, against, compared}
-use Rattle.table.specs.Lines.{Line, values, best, later, refused, accepted, compares, Holds, sameOutcome, sameInt, sameComparison, sameAnswer, isRow, isNone, isInterval, passes, line-holds}
+use Rattle.table.specs.Lines.{Line, values, best, later, refused, accepted, plans, compares, comparesIn, Holds, sameOutcome, sameInt, sameComparison, sameAnswer, isRow, isNone, isInterval, passes, line-holds}
 use Rattle.table.specs.Days.{move, dayOf, openDay, paperDay, numbered}
 
 -- ---- the table
@@ -58,29 +57,46 @@ table =
     -- P9 and P10, overbooked
     ∷ refused (dayOf 3 2 2 1 1 (1 ∷ 1 ∷ 1 ∷ []) (1 ∷ 1 ∷ 1 ∷ []) []) 1 1 3
     ∷ refused (openDay 3 1 2 []) 1 2 3
+    -- several overbooked: the smallest first slot, and for it the smallest last slot. Of 1..3, 1..4, 2..2, 2..3 and 2..4 (5, 6, 2, 5 and 6
+    -- trains on one track); of 1..4, 2..3, 2..4 and 4..4 (5, 3, 5 and 2), where the smallest last, the most overbooked and the shortest
+    -- are three others
+    ∷ refused (dayOf 6 1 4 1 1 (2 ∷ 2 ∷ 2 ∷ 3 ∷ 2 ∷ 2 ∷ []) (3 ∷ 3 ∷ 3 ∷ 4 ∷ 2 ∷ 2 ∷ []) []) 1 3 5
+    ∷ refused (dayOf 5 1 4 1 1 (2 ∷ 2 ∷ 2 ∷ 4 ∷ 4 ∷ []) (2 ∷ 3 ∷ 3 ∷ 4 ∷ 4 ∷ []) []) 1 4 5
     -- P11 to P13
     ∷ best (openDay 2 1 2 (move 1 2 1 ∷ move 2 1 1 ∷ [])) (2 ∷ 1 ∷ []) (counts 1 2 3)
     ∷ best (openDay 2 2 2 (move 1 2 1 ∷ move 2 1 1 ∷ [])) (1 ∷ 1 ∷ []) (counts 0 0 0)
     ∷ best (openDay 3 1 3 (move 1 2 1 ∷ [])) (3 ∷ 2 ∷ 1 ∷ []) (counts 0 1 1)
-    -- the edges: 12 trains and 13, weights 65535 and 65536, G trains in a slot and G + 1
+    -- the limits of the head on both sides: trains and tracks 1 and 12, 0 and 13; slots 1 and 8, 0 and 9; weights 0 and 65535, 65536
     ∷ accepted (openDay 12 12 8 []) true
+    ∷ accepted (openDay 1 1 1 []) true
     ∷ accepted (dayOf 13 12 8 1 1 (replicate 12 1) (replicate 12 8) []) false
     ∷ accepted (openDay 0 1 1 []) false
     ∷ accepted (openDay 2 13 1 []) false
+    ∷ accepted (openDay 2 0 1 []) false
     ∷ accepted (openDay 2 1 9 []) false
+    ∷ accepted (openDay 2 1 0 []) false
+    ∷ accepted (paperDay 0 0 1) true
     ∷ accepted (paperDay 65535 65535 1) true
     ∷ accepted (paperDay 65536 1 1) false
     ∷ accepted (paperDay 1 65536 1) false
+    -- G trains in a slot and G + 1
     ∷ values (openDay 4 2 2 []) (1 ∷ 1 ∷ 2 ∷ 2 ∷ []) (gives (counts 0 0 0))
     ∷ values (openDay 4 2 2 []) (1 ∷ 1 ∷ 1 ∷ 2 ∷ []) (refuses 13 (1 ∷ []))
-    -- records that are not sound: windows outside 1..T or reversed, an unused position that is not 0, boxes from a train to itself
-    -- or from a train that is not there, 256 boxes, a number above 99,999, numbers that do not rise
+    -- windows: first and last 1 and T, 0 and T + 1, reversed
+    ∷ accepted (dayOf 2 1 2 1 1 (1 ∷ 2 ∷ []) (1 ∷ 2 ∷ []) []) true
     ∷ accepted (dayOf 1 1 2 1 1 (0 ∷ []) (2 ∷ []) []) false
+    ∷ accepted (dayOf 1 1 2 1 1 (3 ∷ []) (3 ∷ []) []) false
+    ∷ accepted (dayOf 1 1 2 1 1 (1 ∷ []) (0 ∷ []) []) false
     ∷ accepted (dayOf 1 1 2 1 1 (1 ∷ []) (3 ∷ []) []) false
     ∷ accepted (dayOf 1 1 2 1 1 (2 ∷ []) (1 ∷ []) []) false
+    -- unused positions hold 0: first and last slots, train numbers, boxes to and from
     ∷ accepted (dayOf 1 1 2 1 1 (1 ∷ 1 ∷ []) (2 ∷ []) []) false
-    ∷ accepted (openDay 2 1 2 (move 2 2 1 ∷ [])) false
+    ∷ accepted (dayOf 1 1 2 1 1 (1 ∷ []) (2 ∷ 1 ∷ []) []) false
+    ∷ accepted (numbered (1 ∷ 2 ∷ 3 ∷ []) []) false
+    ∷ accepted (openDay 2 1 2 (move 3 1 1 ∷ [])) false
     ∷ accepted (openDay 2 1 2 (move 1 3 1 ∷ [])) false
+    -- boxes: from a train to itself, 255 and 256; train numbers: 1 and 99,999, 0 and 100,000, not rising
+    ∷ accepted (openDay 2 1 2 (move 2 2 1 ∷ [])) false
     ∷ accepted (openDay 2 1 2 (move 1 2 255 ∷ [])) true
     ∷ accepted (openDay 2 1 2 (move 1 2 256 ∷ [])) false
     ∷ accepted (numbered (255 ∷ 256 ∷ []) []) true
@@ -100,6 +116,21 @@ table =
     ∷ values (paperDay 1 1 2) (1 ∷ 1 ∷ 1 ∷ 1 ∷ []) (refuses 12 (4 ∷ []))
     ∷ values (paperDay 1 1 1) (1 ∷ 2 ∷ 2 ∷ 2 ∷ []) (refuses 13 (2 ∷ []))
     ∷ values (openDay 4 1 2 []) (1 ∷ 1 ∷ 2 ∷ 2 ∷ []) (refuses 13 (1 ∷ []))
+    -- planning lent 2^n words, T × 2^n words and n bytes, each one short, and more; 8 before 10, 10 before 9
+    ∷ plans (paperDay 1 1 1) 16 32 4 (gives (counts 1 7 8))
+    ∷ plans (paperDay 1 1 1) 15 32 4 (refuses 10 (0 ∷ []))
+    ∷ plans (paperDay 1 1 1) 16 31 4 (refuses 10 (0 ∷ []))
+    ∷ plans (paperDay 1 1 1) 16 32 3 (refuses 10 (0 ∷ []))
+    ∷ plans (paperDay 1 1 1) 4096 32768 12 (gives (counts 1 7 8))
+    ∷ plans (paperDay 65536 1 1) 0 0 0 (refuses 8 (0 ∷ []))
+    ∷ plans (openDay 3 1 2 []) 8 16 3 (refuses 9 (1 ∷ 2 ∷ 3 ∷ []))
+    ∷ plans (openDay 3 1 2 []) 7 16 3 (refuses 10 (0 ∷ []))
+    -- comparing lent the same two areas: 8 before 10, 10 before 9, 9 before 14 (the next lines but three)
+    ∷ comparesIn 16 32 firstCome (paperDay 1 1 1) (saving (counts 1 10 11) 3)
+    ∷ comparesIn 15 32 firstCome (paperDay 1 1 1) (refuses 10 (0 ∷ []))
+    ∷ comparesIn 16 31 myopic (paperDay 1 1 1) (refuses 10 (0 ∷ []))
+    ∷ comparesIn 0 0 myopic (paperDay 65536 1 1) (refuses 8 (0 ∷ []))
+    ∷ comparesIn 7 16 firstCome (openDay 3 1 2 []) (refuses 10 (0 ∷ []))
     -- P1 and P9 compared: both procedures give P3's row, and 9 comes before 14
     ∷ compares firstCome (paperDay 1 1 1) (1 ∷ 1 ∷ 2 ∷ 2 ∷ []) (saving (counts 1 10 11) 3)
     ∷ compares myopic (paperDay 1 1 1) (1 ∷ 1 ∷ 2 ∷ 2 ∷ []) (saving (counts 1 10 11) 3)
@@ -117,25 +148,19 @@ table =
     ∷ compares myopic (openDay 3 1 3 (move 2 1 1 ∷ [])) (1 ∷ 3 ∷ 2 ∷ []) (saving (counts 0 1 1) 0)
     -- train 4 waits still when its window has passed, and train 2 pays for it in slot 2
     ∷ compares myopic (dayOf 4 1 4 1 1 (1 ∷ 2 ∷ 1 ∷ 1 ∷ []) (3 ∷ 4 ∷ 2 ∷ 1 ∷ []) (move 2 4 1 ∷ move 3 1 1 ∷ [])) (1 ∷ 3 ∷ 2 ∷ 0 ∷ []) (refuses 14 (4 ∷ []))
+    -- (11) with weights of its own: exchanged, each taken for 1 or left out, a revisit for each waiting supplier, suppliers counted for
+    -- boxes, boxes sent for boxes received, the boxes of earlier slots or of waiting trains left out, each gives another row
+    ∷ compares myopic (dayOf 4 1 4 5 2 (replicate 4 1) (replicate 4 4) (move 1 2 1 ∷ move 2 3 1 ∷ move 2 4 1 ∷ move 3 4 4 ∷ move 4 1 5 ∷ [])) (1 ∷ 2 ∷ 4 ∷ 3 ∷ []) (saving (counts 2 12 34) 5)
+    -- (11) leaves out the boxes and the suppliers of the slot itself, and of equal trains the lowest position is taken
+    ∷ compares myopic (dayOf 3 2 3 1 3 (replicate 3 1) (replicate 3 3) (move 2 1 4 ∷ [])) (1 ∷ 1 ∷ 2 ∷ []) (saving (counts 0 0 0) 0)
     ∷ []
 
 -- ---- every line holds
 
-allPass : List Line → Bool
-allPass [] = true
-allPass (l ∷ ls) = passes l && allPass ls
-
 -- the one computation
-computed : T (allPass table)
+computed : T (allPass passes table)
 unfolding allPass passes sameOutcome sameInt sameComparison sameAnswer sameList isRow isNone isInterval table sum count each Fold.some lowest mask lateSupplier revisiting revisits splitBoxes splitsTo splits weighed cost inSlots inWindow load roomy allowed slotMask lower precedes bound exceeds overbooked allRows byKey pick bestOf overbookedFrom overbookedFirst overbookedLast firstOverbooked within headRanges trainRanges shaped numberBefore trainSound unused positionSound pairSound receiverSound sound strays overfull valued planned inTime trackFree waits suits earliest comeTo waitingSupplier outsideBoxes priority select fillTo servedTo against compared
 computed = tt
 
-all-hold : (ls : List Line) → T (allPass ls) → (l : Line) → List·Memᴰ l ls → Holds l
-unfolding allPass
-all-hold [] t l m = absurd (List·Memᴰ·not-nil m)
-all-hold (x ∷ ls) t l m =
-    let (here, rest) = both-of (passes x) (allPass ls) t in
-    ⊎-elim (λ e. subst Holds (sym e) (line-holds x here)) (λ n. all-hold ls rest l n) (List·Memᴰ·cases-cons m)
-
 pub every-line : (l : Line) → List·Memᴰ l table → Holds l
-every-line = all-hold table computed
+every-line = all-hold passes Holds line-holds table computed

@@ -4,6 +4,7 @@ use mathlib.Core.Path.{_≡_, sym, ap, _∙_}
 use mathlib.Core.List.{List}
 use Prim.Native.Nat.{ℕ, _≤_}
 use native.Mathlib.Omega.{arith}
+use lib.Dec.{T}
 use lib.ListN.{length}
 use Rattle.model.specs.BestOf.{bestOf}
 use Rattle.day.specs.Sound.{dayLimits, yard}
@@ -13,49 +14,50 @@ use Rattle.output.specs.Laws.{put-count}
 use Rattle.valuing.specs.Valuing.{outcomeOf}
 use Rattle.planfile.specs.PlanText.{planLines}
 use Rattle.planfile.specs.Size.{planBytes}
-use Rattle.planning.specs.Planning.{answer, bestAnswer, placed}
-use Rattle.planning.specs.Demand.{says, rowIs}
+use Rattle.planning.specs.Planning.{answer, begins, bestAnswer, placed}
+use Rattle.planning.specs.Answers.{planned-begun, row-begun, areas-suffice}
 use Rattle.answering.specs.Answering.{dayReply}
-use Rattle.answering.specs.Laws.{begun, refused-reply, plan-reply, plan-fits}
+use Rattle.answering.specs.Laws.{refused-reply, plan-reply, plan-fits}
 use borrow.Author.Needs.{needs}
 use Rattle.answering.proofs.put_best.Statement.{statement}
 use Rattle.answering.proofs.put_best.Tie as tie
 
 -- what planning answers, and the row that it leaves
-best-said : (c : tie.After-plan) → let y = yard (c .before .before .before .before .before .before .args .day) in answer (c .plan .result) ≡ bestAnswer y (bestOf y)
-best-said c =
-    let s = c .before .before .before .before .before .before in
-    says dayLimits (yard (s .args .day)) _ _ _ (begun (yard (s .args .day)) (s .pre .0)) _ _ (c .plan .ensures .0) (c .plan .ensures .1 .0)
+abbrev start : tie.After-plan → tie.Start
+start c = c .before .before .before .before .before .before
 
-row-left : (c : tie.After-plan) → let y = yard (c .before .before .before .before .before .before .args .day) in
-    (row : List ℕ) × (c .plan .last .1 .1 .1 .0 ≡ placed (bestOf y) row)
-row-left c =
-    let s = c .before .before .before .before .before .before in
-    (_, rowIs dayLimits (yard (s .args .day)) _ _ _ (begun (yard (s .args .day)) (s .pre .0)) _ _ (c .plan .ensures .0) (c .plan .ensures .1 .0))
+enough : (c : tie.After-plan) → T (begins dayLimits (yard (start c .args .day)) 4096 32768 12)
+enough c = let s = start c in areas-suffice (yard (s .args .day)) 12 (s .pre .0) (sound-is dayLimits (yard (s .args .day)) (s .pre .0) .trains .1)
+
+best-said : (c : tie.After-plan) → let y = yard (start c .args .day) in answer (c .plan .result) ≡ bestAnswer y (bestOf y)
+best-said c = c .plan .ensures .0 ∙ planned-begun dayLimits (yard (start c .args .day)) 4096 32768 12 (enough c)
+
+row-left : (c : tie.After-plan) → let y = yard (start c .args .day) in (row : List ℕ) × (c .plan .last .1 .1 .1 .0 ≡ placed (bestOf y) row)
+row-left c = (_, c .plan .ensures .1 .0 ∙ row-begun dayLimits (yard (start c .args .day)) 4096 32768 _ (enough c))
 
 -- where it gives a plan
 abbrev plan-of : tie.After-known-told2 → tie.After-plan
 plan-of c = c .before .before .before .before .before .before
 
-plan-said : (c : tie.After-known-told2) → let y = yard (plan-of c .before .before .before .before .before .before .args .day) in
+plan-said : (c : tie.After-known-told2) → let y = yard (start (plan-of c) .args .day) in
     gives (outcomeOf (c .before .value .given .0 .0)) ≡ bestAnswer y (bestOf y)
 plan-said c = sym (ap answer (c .before .value .given .1)) ∙ best-said (plan-of c)
 
 -- the lines that are put: the reply, which fits
 abbrev lines : tie.After-known-told2 → List ℕ → List ℕ
-lines c = let day = plan-of c .before .before .before .before .before .before .args .day in planLines (day .trains) (day .numbers) (outcomeOf (c .before .value .given .0 .0))
+lines c = let day = start (plan-of c) .args .day in planLines (day .trains) (day .numbers) (outcomeOf (c .before .value .given .0 .0))
 
-lines-are : (c : tie.After-known-told2) → let y = yard (plan-of c .before .before .before .before .before .before .args .day) in
+lines-are : (c : tie.After-known-told2) → let y = yard (start (plan-of c) .args .day) in
     lines c (plan-of c .plan .last .1 .1 .1 .0) ≡ dayReply y (bestOf y)
 lines-are c =
     let p = plan-of c in
-    let s = p .before .before .before .before .before .before in
+    let s = start p in
     ap (lines c) (row-left p .1) ∙ plan-reply (yard (s .args .day)) (s .pre .0) (row-left p .0) (plan-said c)
 
 lines-fit : (c : tie.After-known-told2) → length (lines c (plan-of c .plan .last .1 .1 .1 .0)) ≤ planBytes
 lines-fit c =
     let p = plan-of c in
-    let s = p .before .before .before .before .before .before in
+    let s = start p in
     omega (arith, ap (λ r. length (lines c r)) (row-left p .1), plan-fits (yard (s .args .day)) (s .pre .0) (row-left p .0) (plan-said c))
 
 slice-aggregate-plan : tie.Need-slice-aggregate-plan
@@ -89,7 +91,7 @@ put-plan-requires : tie.Need-put-plan-requires
 put-plan-requires c κs =
     let k = c .before .before .before in
     let p = plan-of k in
-    let s = p .before .before .before .before .before .before in
+    let s = start p in
     let is = sound-is dayLimits _ (s .pre .0) in
     ((omega (arith, is .shape .numbers, is .trains .1), omega (arith, is .trains .1, p .plan .kept .1 .1 .1 .0)), omega (arith, lines-fit k, s .pre .1))
 
@@ -101,8 +103,8 @@ returns c =
     let f = c .before .before in
     let k = f .before .before in
     let p = k .before .before .before .before .before .before in
-    let s = p .before .before .before .before .before .before in
-    rw (← refused-reply (yard (s .args .day)) (k .before .refusal .given .0 .0) (rw (k .before .refusal .given .1) at (best-said p))) (f .put-refusal .ensures)
+    let s = start p in
+    rw (← refused-reply (yard (s .args .day)) (k .before .refusal .given .0 .0) (sym (ap answer (k .before .refusal .given .1)) ∙ best-said p)) (f .put-refusal .ensures)
 
 same-length-2 : tie.Need-same-length-2
 same-length-2 c = search needs
