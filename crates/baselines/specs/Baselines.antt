@@ -44,12 +44,12 @@ comparisonOrZero (refuses k carries) = record { outcome = noOutcome; saving = po
 -- ---- the answer
 
 -- 14 every train has a slot
-abbrev pub slotChecks : Yard → List ℕ → List Check
-slotChecks y row = must (eqb (leftOver (y .trains) row) (y .trains)) 14 (suc (leftOver (y .trains) row) ∷ []) ∷ []
+abbrev pub servedChecks : Yard → List ℕ → List Check
+servedChecks y row = must (eqb (leftOver (y .trains) row) (y .trains)) 14 (suc (leftOver (y .trains) row) ∷ []) ∷ []
 
 -- a row on a day whose planned cost is given
 unfoldable pub against : Yard → List ℕ → ℕ → Answer Comparison
-against y row best = checked (slotChecks y row) (gives record { outcome = outcome y row; saving = pos (cost y row) -ℤ pos best })
+against y row best = checked (servedChecks y row) (gives record { outcome = outcome y row; saving = pos (cost y row) -ℤ pos best })
 
 -- planning is lent the two areas; no row is lent, so none is too short
 unfoldable pub compared : Limits → Yard → List ℕ → ℕ → ℕ → Answer Comparison

@@ -2,25 +2,26 @@
 --   complete-allowed   a procedure's row that leaves no train without a slot is allowed on a sound day;
 --   saves              where three numbers and a saving are given, the procedure's row is allowed, they are the model's, and the saving is
 --                      what the row costs more than the best plan: never below zero;
---   planned-before     where 14 is given the day has a plan.
+--   planned-before     where 14 is given the day has a plan;
+--   compared-only      on a sound day, in areas that suffice, a refusal is 9 or 14.
 -- Assumes nothing.
 use mathlib.Core.Path.{_≡_, refl, sym, ap, _∙_}
 use mathlib.Core.List.{List}
-use mathlib.Core.Logic.{⊎-elim}
+use mathlib.Core.Logic.{_⊎_, inl, inr, ⊎-elim}
 use Prim.Native.Nat.{ℕ, _+_, _-_}
 use native.Mathlib.Omega.{arith}
 use lib.Dec.{T, eqb→eq}
 use lib.IntN.{pos, _-ℤ_, pos-+ℤ-pos, +ℤ-negℤ-cancel}
 use Rattle.model.specs.Model.{Yard, Outcome, outcome, cost, allowed, Best}
 use Rattle.day.specs.Answer.{Answer, gives, refuses, code, onGiven}
-use Rattle.day.specs.AnswerLaws.{gives-same, checked-gives, given-before}
+use Rattle.day.specs.AnswerLaws.{gives-same, checked-gives, given-before, Only, only-given, only-checked, only-wider}
 use Rattle.day.specs.Sound.{sound}
 use Rattle.day.specs.declared.Limits.{Limits}
-use Rattle.planning.specs.Planning.{planned}
-use Rattle.planning.specs.Answers.{from-best, refuses-only}
+use Rattle.planning.specs.Planning.{planned, begins}
+use Rattle.planning.specs.Answers.{from-best, refuses-only, planned-only}
 use Rattle.procedures.specs.Procedures.{leftOver}
 use Rattle.procedures.specs.Complete.{first-allowed, myopic-allowed}
-use Rattle.baselines.specs.Baselines.{Comparison, rowBy, slotChecks, against, compared}
+use Rattle.baselines.specs.Baselines.{Comparison, rowBy, servedChecks, against, compared}
 use Rattle.baselines.specs.declared.Procedure.{Procedure}
 use Rattle.baselines.specs.declared.Procedure.the-variants.{FirstCome, Myopic}
 
@@ -49,7 +50,7 @@ module _ (l : Limits) (y : Yard) (costs choices : ℕ) where
       let row = rowBy p y in
       let (o, q, f) = given-before (planned l y costs choices (y .trains)) (λ best. against y row (best .cost)) c e in
       let best = from-best l y costs choices (y .trains) o q in
-      let (h, g) = checked-gives (slotChecks y row) (gives record { outcome = outcome y row; saving = pos (cost y row) -ℤ pos (o .cost) }) c f in
+      let (h, g) = checked-gives (servedChecks y row) (gives record { outcome = outcome y row; saving = pos (cost y row) -ℤ pos (o .cost) }) c f in
       let fits = complete-allowed l y p (best .isSound) (eqb→eq (leftOver (y .trains) row) (y .trains) (h .0)) in
       let said = gives-same g in
       let saved = cost y row - cost y (best .row) in
@@ -73,3 +74,10 @@ module _ (l : Limits) (y : Yard) (costs choices : ℕ) where
       go (gives o) p q = let best = from-best l y costs choices (y .trains) o p in (best .row, best .best)
       go (refuses k values) p q =
           absurd (let e : k ≡ 14 = ap code q in ⊎-elim (λ h. omega arith) (⊎-elim (λ h. omega arith) (λ h. omega arith)) (refuses-only l y costs choices (y .trains) p))
+
+  pub compared-only : (row : List ℕ) → T (begins l y costs choices (y .trains)) → Only (λ k carries. (k ≡ 9) ⊎ (k ≡ 14)) (compared l y row costs choices)
+  unfolding compared against
+  compared-only row begun =
+      only-given (λ k carries. (k ≡ 9) ⊎ (k ≡ 14)) (planned l y costs choices (y .trains)) _
+      (only-wider (λ k carries. k ≡ 9) (λ k carries. (k ≡ 9) ⊎ (k ≡ 14)) (planned l y costs choices (y .trains)) (λ k carries e. inl e) (planned-only l y costs choices (y .trains) begun))
+      λ best e. only-checked (λ k carries. (k ≡ 9) ⊎ (k ≡ 14)) (servedChecks y row) (gives record { outcome = outcome y row; saving = pos (cost y row) -ℤ pos (best .cost) }) (inr refl, tt) tt

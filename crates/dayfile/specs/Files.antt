@@ -9,7 +9,7 @@ use native.Mathlib.Omega.{arith}
 use lib.Dec.{T}
 use lib.ListN.{length, getD, length-append}
 use Rattle.day.specs.Answer.{Answer, gives, refuses, Check, checked}
-use Rattle.day.specs.AnswerLaws.{AllHold, checked-holds, checked-gives}
+use Rattle.day.specs.AnswerLaws.{AllHold, checked-holds, checked-gives, given-then}
 use Rattle.day.specs.Sound.{Range, within, headRanges, trainRanges, moveRanges}
 use Rattle.day.specs.SoundLaws.{Within, within-is}
 use Rattle.day.specs.declared.Limits.{Limits}
@@ -17,7 +17,7 @@ use Rattle.decimal.specs.Parsed.{Parsed, fail, got}
 use Rattle.decimal.specs.Decimal.{value}
 use Rattle.lines.specs.Lines.{field, names, row, rowText, rowsText}
 use Rattle.lines.specs.Laws.{names-written, names-read, Small, row-written, row-read}
-use Rattle.dayfile.specs.Reading.{headNames, trainNames, moveNames, field1, headChecks, trainChecks, moveChecks, onward, orRefuse, readNames, RowRest, readRow, Rows, addRow, readTrains, readMoves, headSection, trainSection, moveSection, File, numbersOf, readFile}
+use Rattle.dayfile.specs.Reading.{headNames, trainNames, moveNames, field1, headChecks, trainChecks, moveChecks, orRefuse, readNames, RowRest, readRow, Rows, addRow, readTrains, readMoves, headSection, trainSection, moveSection, File, numbersOf, readFile}
 use Rattle.dayfile.specs.Writing.{fileText}
 
 -- ---- rows that keep the rules
@@ -58,10 +58,6 @@ small (r ∷ ranges) [] e s w = tt
 small (r ∷ ranges) (v ∷ values) e s w = (le-trans (w .0 .1) (s .0), small ranges values (omega arith) (s .1) (w .1))
 
 -- ---- a reading that gives something, taken apart
-
-pub onward-gives : {X Z W : Type 0} (a : Answer X) (f : X → Answer Z) {z : Z} → onward a f ≡ gives z → ((x : X) → a ≡ gives x → f x ≡ gives z → W) → W
-onward-gives (gives x) f e k = k x refl e
-onward-gives (refuses n carried) f e k = absurd (let z : _≡_ {A = ℕ} 0 1 = cc in omega arith)
 
 refuse-gives : {X Z W : Type 0} (form line : ℕ) (p : Parsed X) (f : X → List ℕ → Answer Z) {z : Z}
     → orRefuse form line p f ≡ gives z → ((x : X) (s : List ℕ) → p ≡ got x s → f x s ≡ gives z → W) → W
@@ -124,8 +120,8 @@ trains-read l slots zero before line s x h =
     let e : record { rows = []; rest = s } ≡ x = cc in
     rw (← e) (record { count = refl; text = refl; fine = tt })
 trains-read l slots (suc n) before line s x h =
-    onward-gives (readRow 2 line (trainChecks l slots before line) s) _ h λ r e h.
-    onward-gives (readTrains l slots n (field1 (r .row)) (suc line) (r .rest)) _ h λ z k g.
+    given-then (readRow 2 line (trainChecks l slots before line) s) _ h λ r e h.
+    given-then (readTrains l slots n (field1 (r .row)) (suc line) (r .rest)) _ h λ z k g.
     let w = row-line-read 2 line (trainChecks l slots before line) s r e in
     let t = trains-read l slots n (field1 (r .row)) (suc line) (r .rest) z k in
     let same : record { rows = r .row ∷ z .rows; rest = z .rest } ≡ x = cc in
@@ -190,8 +186,8 @@ moves-read l numbers zero before line [] x h = moves-done l numbers before x h
 moves-read l numbers zero before line (c ∷ s) x h = absurd (let z : _≡_ {A = ℕ} 0 1 = cc in omega arith)
 moves-read l numbers (suc k) before line [] x h = moves-done l numbers before x h
 moves-read l numbers (suc k) before line (c ∷ s) x h =
-    onward-gives (readRow 2 line (moveChecks l numbers before line) (c ∷ s)) _ h λ r e h.
-    onward-gives (readMoves l numbers k (r .row) (suc line) (r .rest)) _ h λ z j g.
+    given-then (readRow 2 line (moveChecks l numbers before line) (c ∷ s)) _ h λ r e h.
+    given-then (readMoves l numbers k (r .row) (suc line) (r .rest)) _ h λ z j g.
     let w = row-line-read 2 line (moveChecks l numbers before line) (c ∷ s) r e in
     let t = moves-read l numbers k (r .row) (suc line) (r .rest) z j in
     let same : record { rows = r .row ∷ z .rows; rest = z .rest } ≡ x = cc in
@@ -241,12 +237,12 @@ pub record FileRead (l : Limits) (t : List ℕ) (f : File) : Type 0 where
 pub file-read : (l : Limits) (text : List ℕ) (f : File) → readFile l text ≡ gives f → FileRead l text f
 unfolding readFile fileText
 file-read l text f h =
-    onward-gives (headSection l text) _ h λ head a h.
-    onward-gives (trainSection l (getD (head .row) 2 0) (getD (head .row) 0 0) (head .rest)) _ h λ trains b h.
-    onward-gives (moveSection l (numbersOf (trains .rows)) (4 + getD (head .row) 0 0) (trains .rest)) _ h λ moves c h.
-    onward-gives (readNames headNames 1 text) _ a λ s1 e1 e2.
-    onward-gives (readNames trainNames 3 (head .rest)) _ b λ s3 e3 e4.
-    onward-gives (readNames moveNames (4 + getD (head .row) 0 0) (trains .rest)) _ c λ s5 e5 e6.
+    given-then (headSection l text) _ h λ head a h.
+    given-then (trainSection l (getD (head .row) 2 0) (getD (head .row) 0 0) (head .rest)) _ h λ trains b h.
+    given-then (moveSection l (numbersOf (trains .rows)) (4 + getD (head .row) 0 0) (trains .rest)) _ h λ moves c h.
+    given-then (readNames headNames 1 text) _ a λ s1 e1 e2.
+    given-then (readNames trainNames 3 (head .rest)) _ b λ s3 e3 e4.
+    given-then (readNames moveNames (4 + getD (head .row) 0 0) (trains .rest)) _ c λ s5 e5 e6.
     let r = row-line-read 4 2 (headChecks l) s1 head e2 in
     let t = trains-read l (getD (head .row) 2 0) (getD (head .row) 0 0) 0 4 s3 trains e4 in
     let m = moves-read l (numbersOf (trains .rows)) (length s5) (0 ∷ 0 ∷ 0 ∷ []) (4 + getD (head .row) 0 0 + 1) s5 moves e6 in

@@ -9,3 +9,4 @@ pub mod RoundTrip
 pub mod Calls
 pub mod Size
 pub mod Wider
+pub mod Refused

@@ -9,7 +9,7 @@ use lib.Dec.{leb, ltb, eqb}
 use lib.ListN.{length, getD, set, replicate}
 use Rattle.fold.specs.Fold.{lowest}
 use Rattle.model.specs.Model.{Yard}
-use Rattle.day.specs.Answer.{Answer, gives, refuses, Check, must, checked}
+use Rattle.day.specs.Answer.{Answer, gives, refuses, onGiven, Check, must, checked}
 use Rattle.day.specs.Sound.{within, headRanges, trainRanges, moveRanges}
 use Rattle.day.specs.declared.Limits.{Limits}
 use Rattle.decimal.specs.Parsed.{Parsed, fail, got}
@@ -71,10 +71,6 @@ moveChecks l numbers before line move =
 
 -- ---- one line, and reading on
 
-abbrev pub onward : {X Z : Type 0} → Answer X → (X → Answer Z) → Answer Z
-onward (gives x) f = f x
-onward (refuses k carried) f = refuses k carried
-
 -- what was read, or the refusal of the line's form
 abbrev pub orRefuse : {X Z : Type 0} → ℕ → ℕ → Parsed X → (X → List ℕ → Answer Z) → Answer Z
 orRefuse form line fail f = refuses form (line ∷ [])
@@ -100,13 +96,13 @@ pub record Rows : Type 0 where
   pub rest : List ℕ
 
 abbrev pub addRow : List ℕ → Answer Rows → Answer Rows
-addRow r a = onward a λ x. gives (record { rows = r ∷ x .rows; rest = x .rest })
+addRow r a = onGiven a λ x. gives (record { rows = r ∷ x .rows; rest = x .rest })
 
 -- the rows of n trains
 unfoldable pub readTrains : Limits → ℕ → ℕ → ℕ → ℕ → List ℕ → Answer Rows
 readTrains l slots zero before line s = gives (record { rows = []; rest = s })
 readTrains l slots (suc n) before line s =
-    onward (readRow 2 line (trainChecks l slots before line) s) λ train.
+    onGiven (readRow 2 line (trainChecks l slots before line) s) λ train.
     addRow (train .row) (readTrains l slots n (field1 (train .row)) (suc line) (train .rest))
 
 -- the rows of moves up to the end of the text; a text has at most as many rows as k, its length
@@ -115,7 +111,7 @@ readMoves l numbers zero before line [] = gives (record { rows = []; rest = [] }
 readMoves l numbers zero before line (c ∷ s) = refuses 2 (line ∷ [])
 readMoves l numbers (suc k) before line [] = gives (record { rows = []; rest = [] })
 readMoves l numbers (suc k) before line (c ∷ s) =
-    onward (readRow 2 line (moveChecks l numbers before line) (c ∷ s)) λ move.
+    onGiven (readRow 2 line (moveChecks l numbers before line) (c ∷ s)) λ move.
     addRow (move .row) (readMoves l numbers k (move .row) (suc line) (move .rest))
 
 -- ---- the file
@@ -131,19 +127,19 @@ numbersOf trains = map field1 trains
 
 -- the three sections: each is its names line, then its row or rows
 abbrev pub headSection : Limits → List ℕ → Answer RowRest
-headSection l s = onward (readNames headNames 1 s) λ s. readRow 4 2 (headChecks l) s
+headSection l s = onGiven (readNames headNames 1 s) λ s. readRow 4 2 (headChecks l) s
 
 abbrev pub trainSection : Limits → ℕ → ℕ → List ℕ → Answer Rows
-trainSection l slots n s = onward (readNames trainNames 3 s) λ s. readTrains l slots n 0 4 s
+trainSection l slots n s = onGiven (readNames trainNames 3 s) λ s. readTrains l slots n 0 4 s
 
 abbrev pub moveSection : Limits → List ℕ → ℕ → List ℕ → Answer Rows
-moveSection l numbers line s = onward (readNames moveNames line s) λ s. readMoves l numbers (length s) (0 ∷ 0 ∷ 0 ∷ []) (line + 1) s
+moveSection l numbers line s = onGiven (readNames moveNames line s) λ s. readMoves l numbers (length s) (0 ∷ 0 ∷ 0 ∷ []) (line + 1) s
 
 unfoldable pub readFile : Limits → List ℕ → Answer File
 readFile l text =
-    onward (headSection l text) λ head.
-    onward (trainSection l (getD (head .row) 2 0) (getD (head .row) 0 0) (head .rest)) λ trains.
-    onward (moveSection l (numbersOf (trains .rows)) (4 + getD (head .row) 0 0) (trains .rest)) λ moves.
+    onGiven (headSection l text) λ head.
+    onGiven (trainSection l (getD (head .row) 2 0) (getD (head .row) 0 0) (head .rest)) λ trains.
+    onGiven (moveSection l (numbersOf (trains .rows)) (4 + getD (head .row) 0 0) (trains .rest)) λ moves.
     gives (record { head = head .row; trains = trains .rows; moves = moves .rows })
 
 -- ---- the day of a file
@@ -175,4 +171,4 @@ dayOf l f = record {
 }
 
 unfoldable pub readDay : Limits → List ℕ → Answer Yard
-readDay l text = onward (readFile l text) λ f. gives (dayOf l f)
+readDay l text = onGiven (readFile l text) λ f. gives (dayOf l f)

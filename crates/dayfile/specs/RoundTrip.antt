@@ -18,13 +18,14 @@ use Rattle.fold.specs.Test.{both-of}
 use Rattle.fold.specs.Fold.{each-at, each-i}
 use Rattle.fold.specs.Listed.{listed, length-listed, listed-all, listed-ext, joined, joined-ext}
 use Rattle.model.specs.Model.{Yard}
-use Rattle.day.specs.Answer.{Answer, gives}
+use Rattle.day.specs.Answer.{Answer, gives, onGiven}
+use Rattle.day.specs.AnswerLaws.{given-then}
 use Rattle.day.specs.Sound.{dayLimits, headRanges, trainRanges, trainRow, trainSound, unused, positionSound, pairSound, receiverSound, sound}
 use Rattle.day.specs.SoundLaws.{Within, within-is, Shaped, Sound, sound-tests, tests-sound, shaped-is, is-shaped, train-tests, sound-is}
 use Rattle.day.specs.declared.Limits.{Limits}
-use Rattle.dayfile.specs.Reading.{field1, field2, field3, onward, File, numbersOf, readFile, padded, stored, dayOf, readDay}
+use Rattle.dayfile.specs.Reading.{field1, field2, field3, File, numbersOf, readFile, padded, stored, dayOf, readDay}
 use Rattle.dayfile.specs.Writing.{fileText, moveRows, fileOf, dayText}
-use Rattle.dayfile.specs.Files.{Short, FineTrains, FineMoves, Fine, file-written, file-read, onward-gives}
+use Rattle.dayfile.specs.Files.{Short, FineTrains, FineMoves, Fine, file-written, file-read}
 use Rattle.dayfile.specs.Trains.{padded-at, length-padded, trains-at, Rising, rising, train-row, positions-sound, rows-fine, column-back}
 use Rattle.dayfile.specs.Moves.{length-stored, moves-back, table-back}
 use Rattle.dayfile.specs.Fine.{fine-placed, pairs-sound, table-fine, table-entries}
@@ -215,19 +216,19 @@ module _ (l : Limits) (f : File) (fine : Fine l f) where
 
 pub write-read : (l : Limits) (y : Yard) → Short l → T (sound l y) → readDay l (dayText y) ≡ gives y
 unfolding readDay dayText
-write-read l y short s = ap (λ (a : Answer File). onward a λ f. gives (dayOf l f)) (file-written l (fileOf y) short (day-fine l y s)) ∙ ap gives (day-back l y s)
+write-read l y short s = ap (λ (a : Answer File). onGiven a λ f. gives (dayOf l f)) (file-written l (fileOf y) short (day-fine l y s)) ∙ ap gives (day-back l y s)
 
 pub read-sound : (l : Limits) (text : List ℕ) (y : Yard) → readDay l text ≡ gives y → T (sound l y)
 unfolding readDay
 read-sound l text y h =
-    onward-gives (readFile l text) _ h λ f e g.
+    given-then (readFile l text) _ h λ f e g.
     let same : dayOf l f ≡ y = cc in
     subst (λ (z : Yard). T (sound l z)) same (file-sound l f (file-read l text f e .fine))
 
 pub read-write : (l : Limits) (text : List ℕ) (y : Yard) → readDay l text ≡ gives y → text ≡ dayText y
 unfolding readDay dayText
 read-write l text y h =
-    onward-gives (readFile l text) _ h λ f e g.
+    given-then (readFile l text) _ h λ f e g.
     let same : dayOf l f ≡ y = cc in
     let r = file-read l text f e in
     r .text ∙ ap fileText (sym (file-back l f (r .fine)) ∙ ap fileOf same)

@@ -12,7 +12,7 @@ use lib.Dec.{T, eqb}
 use lib.ListN.{drop}
 use borrow.Author.Tests.{eq-eqb}
 use Rattle.fold.specs.Test.{of-true, both-of, not-of}
-use Rattle.day.specs.Answer.{Answer, gives, refusal, Check}
+use Rattle.day.specs.Answer.{Answer, gives, onGiven, refusal, Check}
 use Rattle.day.specs.declared.Refusal.{Refusal}
 use Rattle.lines.specs.Lines.{names, row}
 use Rattle.lines.specs.Reader.{theEnd, namesFound, rowFound, found, Answers}
@@ -20,7 +20,7 @@ use Rattle.lines.specs.declared.Due.the-variants.{RowOrEnd}
 use Rattle.lines.specs.declared.Line.{Line}
 use Rattle.lines.specs.declared.Line.the-variants.{Names, Row, End, Refused}
 use Rattle.lines.proofs.Line.{the-type}
-use Rattle.dayfile.specs.Reading.{RowRest, onward, readNames, readRow}
+use Rattle.dayfile.specs.Reading.{RowRest, readNames, readRow}
 use Rattle.dayread.specs.Steps.{ReadsRow, ReadsMove, row-not-names, row-not-end, row-refused, end-or-row, names-not-row, names-not-end, names-refused}
 use Rattle.dayread.specs.Sections.{Hands, NamesTo}
 use Rattle.dayread.specs.declared.Step.{Step}
@@ -101,7 +101,7 @@ goes-on p (Refused x) h = absurd (none-of 3 0 1 2 h tt)
 
 -- where a names line is due, any other answer of the line reader is its refusal
 pub head-handed : (t word : List ℕ) (k n : ℕ) (s : List ℕ) (f : List ℕ → Answer RowRest) (line : Line)
-    → OneOf (tagOf the-type line) 1 2 3 → Answers t (namesFound n (names word s)) line → ReadsRow k t (onward (readNames word n s) f) line
+    → OneOf (tagOf the-type line) 1 2 3 → Answers t (namesFound n (names word s)) line → ReadsRow k t (onGiven (readNames word n s) f) line
 head-handed t word k n s f (Names next) h g = absurd (none-of 0 1 2 3 h tt)
 head-handed t word k n s f (Row a b c d e next) h g = absurd (names-not-row n (names word s) (g .values) (drop next t) (g .is))
 head-handed t word k n s f End h g = absurd (names-not-end n (names word s) g)

@@ -10,7 +10,7 @@ use lib.Dec.{eqb, ltb→lt}
 use lib.ListN.{length, getD, set, drop, length-append, length-drop, length-map}
 use lib.Seq.{drop-cons, set-at}
 use Rattle.fold.specs.Test.{both-of}
-use Rattle.day.specs.Answer.{Answer, gives, refuses, refusal}
+use Rattle.day.specs.Answer.{Answer, gives, refuses, onGiven, refusal}
 use Rattle.day.specs.Sound.{trainRanges, moveRanges}
 use Rattle.day.specs.SoundLaws.{within-is}
 use Rattle.day.specs.declared.Limits.{Limits}
@@ -18,7 +18,7 @@ use Rattle.day.specs.declared.Refusal.{Refusal}
 use Rattle.lines.specs.Lines.{rowText}
 use Rattle.lines.specs.declared.Line.{Line}
 use Rattle.lines.specs.declared.Line.the-variants.{Names, Row, End, Refused}
-use Rattle.dayfile.specs.Reading.{field1, field2, field3, trainChecks, onward, RowRest, readRow, Rows, addRow, readTrains, readMoves, moveChecks, position, isListed, stored, placeOf}
+use Rattle.dayfile.specs.Reading.{field1, field2, field3, trainChecks, RowRest, readRow, Rows, addRow, readTrains, readMoves, moveChecks, position, isListed, stored, placeOf}
 use Rattle.dayfile.specs.Files.{row-line-read, moves-end, moves-row, row-longer}
 use Rattle.dayread.specs.Steps.{rowRest, RowTo}
 use Rattle.dayread.specs.declared.Step.{Step}
@@ -40,7 +40,7 @@ NamesTo t answer (Stopped x) = answer ≡ refusal x
 -- ---- rows before rows
 
 abbrev pub addRows : List (List ℕ) → Answer Rows → Answer Rows
-addRows rows answer = onward answer λ x. gives (record { rows = rows ++ x .rows; rest = x .rest })
+addRows rows answer = onGiven answer λ x. gives (record { rows = rows ++ x .rows; rest = x .rest })
 
 add-none : (a : Answer Rows) → addRows [] a ≡ a
 add-none (gives x) = refl
@@ -98,7 +98,7 @@ module _ (l : Limits) (slots n : ℕ) (t : List ℕ) where
   module _ {s numbers₀ first₀ last₀ numbers first last : List ℕ} {i p before : ℕ} (g : TrainsSoFar l slots n t s numbers₀ first₀ last₀ numbers first last i p before) (more : i < n) where
     -- the next row decides
     turn : readTrains l slots n 0 4 s
-        ≡ addRows (g .rows) (onward (readRow 2 (4 + i) (trainChecks l slots before (4 + i)) (drop p t)) λ train. addRow (train .row) (readTrains l slots (n - suc i) (field1 (train .row)) (suc (4 + i)) (train .rest)))
+        ≡ addRows (g .rows) (onGiven (readRow 2 (4 + i) (trainChecks l slots before (4 + i)) (drop p t)) λ train. addRow (train .row) (readTrains l slots (n - suc i) (field1 (train .row)) (suc (4 + i)) (train .rest)))
     unfolding readTrains
     turn =
         let e : n - i ≡ suc (n - suc i) = omega arith in
@@ -119,7 +119,7 @@ module _ (l : Limits) (slots n : ℕ) (t : List ℕ) where
           count = length-append (g .rows) (r ∷ []) ∙ ap (λ k. k + 1) (g .count);
           goes =
               turn
-              ∙ ap (λ (x : Answer RowRest). addRows (g .rows) (onward x λ train. addRow (train .row) (readTrains l slots (n - suc i) (field1 (train .row)) (suc (4 + i)) (train .rest)))) (h .is)
+              ∙ ap (λ (x : Answer RowRest). addRows (g .rows) (onGiven x λ train. addRow (train .row) (readTrains l slots (n - suc i) (field1 (train .row)) (suc (4 + i)) (train .rest)))) (h .is)
               ∙ add-one-more (g .rows) r (readTrains l slots (n - suc i) a (suc (4 + i)) (drop next t))
               ∙ ap₂ (λ k m. addRows (g .rows ++ r ∷ []) (readTrains l slots k a m (drop next t))) left below;
           inside = h .inside;
@@ -280,5 +280,5 @@ module _ (l : Limits) (numbers : List ℕ) (width line start : ℕ) (t : List �
 
 -- ---- a section is its names line, then its rows
 
-pub section-stops : {X Z : Type 0} (a : Answer X) (f : X → Answer Z) (x : Refusal) → a ≡ refusal x → onward a f ≡ refusal x
-section-stops a f x e = ap (λ b. onward b f) e
+pub section-stops : {X Z : Type 0} (a : Answer X) (f : X → Answer Z) (x : Refusal) → a ≡ refusal x → onGiven a f ≡ refusal x
+section-stops a f x e = ap (λ b. onGiven b f) e

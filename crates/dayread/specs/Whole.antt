@@ -8,12 +8,13 @@ use lib.ListN.{length, take, drop, replicate, length-map}
 use lib.Seq.{take-append-seam}
 use Rattle.model.specs.Model.{Yard}
 use Rattle.day.specs.Answer.{Answer, gives, refusal}
+use Rattle.day.specs.AnswerLaws.{given-then}
 use Rattle.day.specs.Sound.{headRanges}
 use Rattle.day.specs.SoundLaws.{within-is}
 use Rattle.day.specs.declared.Limits.{Limits}
 use Rattle.day.specs.declared.Refusal.{Refusal}
 use Rattle.dayfile.specs.Reading.{field1, field2, field3, headChecks, headNames, readNames, readRow, headSection, trainSection, moveSection, readFile, padded, dayOf, readDay}
-use Rattle.dayfile.specs.Files.{onward-gives, row-line-read}
+use Rattle.dayfile.specs.Files.{row-line-read}
 use Rattle.dayfile.specs.Calls.{zeroDay, dayOrZero}
 use Rattle.dayread.specs.Steps.{rowRest, RowTo}
 use Rattle.dayread.specs.Sections.{TrainsRead, MovesRead}
@@ -46,7 +47,7 @@ pub record HeadLimits (l : Limits) (a c : ℕ) : Type 0 where
 pub head-limits : (l : Limits) (t s : List ℕ) {a b c d e next : ℕ} → RowTo 4 t (headSection l s) a b c d e next → HeadLimits l a c
 unfolding headRanges
 head-limits l t s {a} {b} {c} {d} {e} {next} h =
-    onward-gives (readNames headNames 1 s) (readRow 4 2 (headChecks l)) (h .is) λ q x y.
+    given-then (readNames headNames 1 s) (readRow 4 2 (headChecks l)) (h .is) λ q x y.
     let w = row-line-read 4 2 (headChecks l) q (rowRest (a ∷ b ∷ c ∷ d ∷ e ∷ []) (drop next t)) y in
     let (n, (m, (k, u))) = within-is (headRanges l) (a ∷ b ∷ c ∷ d ∷ e ∷ []) (w .holds .0) in
     record { trains = n .1; slots = k .1 }

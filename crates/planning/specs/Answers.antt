@@ -2,7 +2,7 @@
 -- sound day; a plan is the best row of a sound day; its refusals are 8, 10 and 9; and a row of as many bytes as a day may have trains is as
 -- good as one of n.
 -- Assumes nothing.
-use mathlib.Core.Path.{_≡_, refl, sym, ap, _∙_}
+use mathlib.Core.Path.{_≡_, refl, sym, ap, _∙_, subst}
 use mathlib.Core.Bool.{Bool, true, false, cond, _&&_}
 use mathlib.Core.List.{List, [], _∷_}
 use mathlib.Core.Logic.{_⊎_, inl, inr}
@@ -18,7 +18,7 @@ use Rattle.fold.specs.Test.{is-true, of-true, both, both-of}
 use Rattle.model.specs.Model.{Yard, Outcome, outcome, Best}
 use Rattle.model.specs.BestOf.{bestOf, is-best}
 use Rattle.day.specs.Answer.{gives, refuses, code}
-use Rattle.day.specs.AnswerLaws.{gives-same, checked-holds, checked-gives}
+use Rattle.day.specs.AnswerLaws.{gives-same, checked-holds, checked-gives, Only}
 use Rattle.day.specs.Sound.{dayLimits, sound}
 use Rattle.day.specs.SoundLaws.{sound-is}
 use Rattle.day.specs.declared.Limits.{Limits}
@@ -75,6 +75,14 @@ module _ (l : Limits) (y : Yard) (costs choices bytes : ℕ) where
       go true false b q = inr (inl (sym (ap code q)))
       go true true none q = inr (inr (sym (ap code q)))
       go true true (some row) q = absurd (let z : _≡_ {A = ℕ} 0 1 = cc in omega arith)
+
+-- on a sound day, in areas that suffice, it is 9
+pub planned-only : (l : Limits) (y : Yard) (costs choices bytes : ℕ) → T (begins l y costs choices bytes) → Only (λ k carries. k ≡ 9) (planned l y costs choices bytes)
+planned-only l y costs choices bytes begun = subst (Only λ k carries. k ≡ 9) (sym (planned-begun l y costs choices bytes begun)) (go (bestOf y))
+  where
+    go : (b : Option (List ℕ)) → Only (λ k carries. k ≡ 9) (bestAnswer y b)
+    go none = refl
+    go (some row) = tt
 
 -- ---- a row that is long enough for every sound day
 

@@ -17,9 +17,9 @@ use Rattle.model.specs.Rows.{windowed, allowed-tests, tests-allowed, both-le, l
 use Rattle.day.specs.Sound.{sound}
 use Rattle.day.specs.SoundLaws.{sound-is}
 use Rattle.day.specs.Answer.{gives, refuses}
-use Rattle.day.specs.AnswerLaws.{checked-holds, checked-gives}
+use Rattle.day.specs.AnswerLaws.{checked-holds, checked-gives, Only, only-after}
 use Rattle.day.specs.declared.Limits.{Limits}
-use Rattle.valuing.specs.Valuing.{strays, overfull, rowChecks, valued}
+use Rattle.valuing.specs.Valuing.{strays, overfull, slotChecks, rowChecks, valued}
 
 -- the test of slot t + 1, as the code asks it
 pub overfull-is : (n tracks : ℕ) (row : List ℕ) (t : ℕ) {r : Bool} → r ≡ roomy n tracks row (t + 1) → overfull n tracks row t ≡ not r
@@ -61,6 +61,17 @@ module _ (l : Limits) (y : Yard) (row : List ℕ) where
       says-values h =
           let f = each-lowest (y .slots) (λ t. roomy (y .trains) (y .tracks) row (suc t)) h in
           simp (s, eq-eqb (length row) (y .trains) long, within, f)
+
+-- ---- a sound day gets 11, 12 or 13 and no other refusal
+
+abbrev pub SlotRefusal : ℕ → List ℕ → Type 0
+SlotRefusal k carries = (11 ≤ k) × (k ≤ 13)
+
+pub valued-only : (l : Limits) (y : Yard) (row : List ℕ) → T (sound l y) → Only SlotRefusal (valued l y row)
+unfolding valued
+valued-only l y row s =
+    only-after SlotRefusal (sound l y) 8 (0 ∷ []) (slotChecks y row) (gives (outcome y row)) s
+    ((omega arith, omega arith), ((omega arith, omega arith), ((omega arith, omega arith), tt))) tt
 
 -- ---- demand 2: each allowed row of a sound day has the model's numbers, and no other row has any
 

@@ -37,14 +37,17 @@ strays first last row i = not (inWindow first last row i)
 unfoldable pub overfull : ℕ → ℕ → List ℕ → ℕ → Bool
 overfull n tracks row t = not (roomy n tracks row (suc t))
 
--- 8 the record is sound, 11 the row has n slots, 12 each slot lies in its train's window, 13 no slot holds more than G trains
-abbrev pub rowChecks : Limits → Yard → List ℕ → List Check
-rowChecks l y row =
-    must (sound l y) 8 (0 ∷ [])
-    ∷ must (eqb (length row) (y .trains)) 11 (0 ∷ [])
+-- of a sound day: 11 the row has n slots, 12 each slot lies in its train's window, 13 no slot holds more than G trains
+abbrev pub slotChecks : Yard → List ℕ → List Check
+slotChecks y row =
+    must (eqb (length row) (y .trains)) 11 (0 ∷ [])
     ∷ must (each (y .trains) (inWindow (y .first) (y .last) row)) 12 (suc (lowest (y .trains) (strays (y .first) (y .last) row)) ∷ [])
     ∷ must (each (y .slots) λ t. roomy (y .trains) (y .tracks) row (suc t)) 13 (suc (lowest (y .slots) (overfull (y .trains) (y .tracks) row)) ∷ [])
     ∷ []
+
+-- 8 the record is sound, then those
+abbrev pub rowChecks : Limits → Yard → List ℕ → List Check
+rowChecks l y row = must (sound l y) 8 (0 ∷ []) ∷ slotChecks y row
 
 unfoldable pub valued : Limits → Yard → List ℕ → Answer Outcome
 valued l y row = checked (rowChecks l y row) (gives (outcome y row))
