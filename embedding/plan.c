@@ -1,75 +1,83 @@
-/* Plans a day from C: reads a day file, prints the answer, then values the first row that comes to mind, every train in its first slot.
+/* Plans a day from C: reads a day file, prints the slot of each train and what the plan costs; then values a row of one's own, every train
+ * in slot 1.
  *
  *     rt staticlib yard
  *     cc -Iinclude -o target/plan_c embedding/plan.c target/staticlib/libyard.a
  *     target/plan_c examples/p01.day
- */
+ *
+ * Ends with 0 where the day has a plan, with 1 where it is refused, with 2 where there is no day to plan. */
+#include <inttypes.h>
 #include <stdio.h>
 #include <string.h>
 
 #include "yard.h"
 
-/* A day file has at most 2,317 bytes; one byte more tells a longer text from a whole one, and either is refused by its own lines. */
-enum { MOST_TEXT = 4096, MOST_TRAINS = 12 };
+/* No day file has more than 2,317 bytes, so the first 4,096 of a longer text are refused as well. */
+enum { MOST_TEXT = 4096 };
 
-static size_t read_file(const char *name, uint8_t *text)
+/* Reads the first MOST_TEXT bytes of a file. Returns 0 where it cannot be read. */
+static int read_file(const char *name, uint8_t *text, size_t *length)
 {
     FILE *file = fopen(name, "rb");
     if (!file) {
         perror(name);
         return 0;
     }
-    size_t length = fread(text, 1, MOST_TEXT, file);
+    *length = fread(text, 1, MOST_TEXT, file);
+    int good = !ferror(file);
+    if (!good)
+        perror(name);
     fclose(file);
-    return length;
+    return good;
 }
 
-/* Prints what the row costs, or the refusal and what it carries. */
-static void print_value(const uint8_t *text, size_t length, const uint8_t *row, size_t trains)
+/* Prints a refusal in words: of reading its line, of planning the stretch of slots that is overbooked. */
+static void print_refusal(uint64_t refusal, const uint64_t numbers[3])
 {
-    uint64_t numbers[3];
-    uint64_t refusal = yard_value(text, length, row, trains, numbers, 3);
-    if (refusal == 0)
-        printf("row: revisits %llu, splits %llu, cost %llu\n", (unsigned long long)numbers[0], (unsigned long long)numbers[1],
-               (unsigned long long)numbers[2]);
+    if (refusal == 9)
+        printf("no plan: %" PRIu64 " trains are bound to the slots %" PRIu64 " to %" PRIu64 "\n", numbers[2], numbers[0], numbers[1]);
     else
-        printf("row: refusal %llu, %llu\n", (unsigned long long)refusal, (unsigned long long)numbers[0]);
+        printf("no day file: refusal %" PRIu64 ", line %" PRIu64 "\n", refusal, numbers[0]);
+}
+
+static void print_numbers(const char *name, const uint64_t numbers[3])
+{
+    printf("%s: revisits %" PRIu64 ", splits %" PRIu64 ", cost %" PRIu64 "\n", name, numbers[0], numbers[1], numbers[2]);
 }
 
 int main(int argc, char **argv)
 {
     static uint8_t text[MOST_TEXT];
-    uint8_t answer[YARD_ANSWER_BYTES];
-    uint8_t row[MOST_TRAINS];
-    size_t bytes;
-    uint64_t line;
+    uint8_t row[YARD_MOST_TRAINS];
+    uint64_t numbers[3];
+    size_t length, trains;
 
+    if (yard_version() != YARD_VERSION) {
+        fprintf(stderr, "the library has version %" PRIu64 ", yard.h %d\n", yard_version(), YARD_VERSION);
+        return 2;
+    }
     if (argc != 2) {
         fprintf(stderr, "usage: %s DAY\n", argv[0]);
         return 2;
     }
-    size_t length = read_file(argv[1], text);
+    if (!read_file(argv[1], text, &length))
+        return 2;
 
-    /* the answer: what yard-plan prints */
-    if (yard_answer(text, length, answer, sizeof answer, &bytes) != 0)
-        return 1; /* never: YARD_ANSWER_BYTES suffice */
-    fwrite(answer, 1, bytes, stdout);
-
-    /* too short an output is refused, and stays as it was */
-    if (yard_answer(text, length, answer, 1, &bytes) != 10 || bytes != 0)
+    uint64_t refusal = yard_plan(text, length, row, sizeof row, numbers, 3, &trains);
+    if (refusal != 0) {
+        print_refusal(refusal, numbers);
         return 1;
-
-    if (yard_check(text, length, &line) != 0)
-        return 0; /* no day file: the answer has said so */
-
-    /* a row of one's own: all trains in slot 1, for 1 train, 2 trains and so on, until the length is right */
-    memset(row, 1, sizeof row);
-    for (size_t trains = 1; trains <= MOST_TRAINS; trains++) {
-        uint64_t numbers[3];
-        if (yard_value(text, length, row, trains, numbers, 3) != 11) {
-            print_value(text, length, row, trains);
-            break;
-        }
     }
+    print_numbers("plan", numbers);
+    for (size_t i = 0; i < trains; i++)
+        printf("train %zu of the day file: slot %u\n", i + 1, row[i]);
+
+    /* a row of one's own: 0 with its numbers, or 12 or 13 with the position or the slot at fault */
+    memset(row, 1, trains);
+    refusal = yard_value(text, length, row, trains, numbers, 3);
+    if (refusal == 0)
+        print_numbers("all in slot 1", numbers);
+    else
+        printf("all in slot 1: refusal %" PRIu64 ", %" PRIu64 "\n", refusal, numbers[0]);
     return 0;
 }
