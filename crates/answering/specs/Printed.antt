@@ -24,12 +24,12 @@ use Rattle.planning.specs.Planning.{carriedBy}
 use Rattle.planfile.specs.PlanText.{planLines}
 use Rattle.answering.specs.Answering.{refusalText, dayReply, reply, answerText}
 
-pub data Printed (text printed : List ℕ) : Type 0 where
-  plan : (y : Yard) (row : List ℕ) → readDay dayLimits text ≡ gives y → Best y row → printed ≡ planLines (y .trains) (y .numbers) (outcome y row) row → Printed text printed
+pub data Printed (text bytes : List ℕ) : Type 0 where
+  plan : (y : Yard) (row : List ℕ) → readDay dayLimits text ≡ gives y → Best y row → bytes ≡ planLines (y .trains) (y .numbers) (outcome y row) row → Printed text bytes
   overbooked : (y : Yard) (a b : ℕ) → readDay dayLimits text ≡ gives y → NoRow y → FirstOverbooked y a b
-      → printed ≡ refusalText 9 (a ∷ b ∷ boundInside y a b ∷ []) → Printed text printed
+      → bytes ≡ refusalText 9 (a ∷ b ∷ boundInside y a b ∷ []) → Printed text bytes
   unread : (k line : ℕ) → 1 ≤ k → k ≤ 7 → 1 ≤ line → readDay dayLimits text ≡ refuses k (line ∷ []) → ((y : Yard) → readDay dayLimits text ≡ gives y → ⊥)
-      → printed ≡ refusalText k (line ∷ []) → Printed text printed
+      → bytes ≡ refusalText k (line ∷ []) → Printed text bytes
 
 module _ (text : List ℕ) where
   printed-day : (y : Yard) → readDay dayLimits text ≡ gives y → (b : Option (List ℕ)) → bestOf y ≡ b → Printed text (dayReply y b)
