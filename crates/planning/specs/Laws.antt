@@ -1,7 +1,7 @@
 -- How the planning call's parts come to its answer: the best row behind the solved table, and each of the answers that the code gives.
 -- Assumes nothing.
-use mathlib.Core.Path.{_≡_, sym, ap, _∙_, subst}
-use mathlib.Core.Bool.{true, false}
+use mathlib.Core.Path.{_≡_, refl, sym, ap, ap₂, _∙_, subst}
+use mathlib.Core.Bool.{true, false, _&&_}
 use mathlib.Core.List.{List, [], _∷_, _++_}
 use mathlib.Core.Option.{some}
 use Prim.Native.Nat.{ℕ, _-_, _*_, _^_, _≤_, _<_}
@@ -79,18 +79,20 @@ pub record Left (l : Limits) (y : Yard) (cost₀ choice₀ row₀ : List ℕ) (s
 module _ (l : Limits) (y : Yard) (cost choice row : List ℕ) where
   pub left-unsound : sound l y ≡ false → Left l y cost choice row (refuses 8 (0 ∷ [])) cost choice row
   unfolding planned rowAfter
-  left-unsound s = record { says = simp s; rowIs = simp s; costs = simp s; choices = simp s }
+  left-unsound s = record { says = simp s; rowIs = simp s; costs = refl; choices = refl }
 
   pub left-short : sound l y ≡ true → suffices y (length cost) (length choice) (length row) ≡ false → Left l y cost choice row (refuses 10 (0 ∷ [])) cost choice row
   unfolding planned rowAfter
-  left-short s e = record { says = rw (s, e); rowIs = rw (s, e); costs = rw (s, e); choices = rw (s, e) }
+  left-short s e = record { says = rw (s, e); rowIs = rw (s, e); costs = refl; choices = refl }
 
   pub left-best : {size : ℕ} {said : Answer Outcome} {cost′ choice′ row′ : List ℕ} → size ≡ 2 ^ y .trains → sound l y ≡ true → suffices y (length cost) (length choice) (length row) ≡ true
       → Decided y size cost choice row said cost′ choice′ row′ → Left l y cost choice row said cost′ choice′ row′
   unfolding planned rowAfter
-  left-best {size} {said} {cost′} {choice′} {row′} n s e d = record {
-    says = rw (s, e) (d .says);
-    rowIs = rw (s, e) (d .rowIs);
-    costs = rw (s, e) (subst (λ k. Stays k cost cost′) n (d .costs));
-    choices = rw (s, e) (subst (λ k. Stays (y .slots * k) choice choice′) n (d .choices));
-  }
+  left-best {size} {said} {cost′} {choice′} {row′} n s e d =
+      let begun : begins l y (length cost) (length choice) (length row) ≡ true = ap₂ (λ a b. a && b) s e in
+      record {
+        says = rw (s, e) (d .says);
+        rowIs = rw (s, e) (d .rowIs);
+        costs = subst (λ b. Stays (openWords b (costWords y)) cost cost′) (sym begun) (subst (λ k. Stays k cost cost′) n (d .costs));
+        choices = subst (λ b. Stays (openWords b (choiceWords y)) choice choice′) (sym begun) (subst (λ k. Stays (y .slots * k) choice choice′) n (d .choices));
+      }

@@ -1,5 +1,5 @@
--- Sample texts and what each reads to, and what writing answers for outputs of some lengths, as one table, and the one theorem that every
--- line holds:
+-- Sample texts and what each reads to, what yard-plan prints for some of them, and what writing answers for outputs of some lengths, as one
+-- table, and the one theorem that every line holds:
 --     every-line : (l : Line) → List·Memᴰ l table → Holds l
 -- The checker computes one test over the whole table; `line-holds` turns a line's test into its statement. That an accepted text is
 -- written as the same bytes follows from `read-write`.
@@ -16,7 +16,12 @@ use Rattle.fold.specs.Fold
 use Rattle.fold.specs.Fold.{sum, count, each, lowest}
 use Rattle.fold.specs.Table.{allPass, all-hold}
 use Rattle.fold.specs.Listed.{listed, joined}
-use Rattle.model.specs.Model.{Yard, lateSupplier, revisiting, revisits, splitBoxes, splitsTo, splits, weighed, inWindow, load, roomy}
+use Rattle.sets.specs.Mask.{mask}
+use Rattle.model.specs.Model.{Yard, lateSupplier, revisiting, revisits, splitBoxes, splitsTo, splits, weighed, cost, inSlots, inWindow, load, roomy, allowed, slotMask, lower, precedes, bound, exceeds, overbooked}
+use Rattle.model.specs.Rows.{allRows}
+use Rattle.model.specs.Order.{byKey, pick}
+use Rattle.model.specs.BestOf.{bestOf}
+use Rattle.model.specs.Overbooked.{firstOverbooked, overbookedFrom, overbookedFirst, overbookedLast}
 use Rattle.day.specs.Answer.{Answer, gives, refuses}
 use Rattle.day.specs.Sound.{dayLimits, yard, within, headRanges, trainRanges, moveRanges, headRow, shaped, sound, numberBefore, trainSound, unused, positionSound, pairSound, receiverSound}
 use Rattle.day.specs.declared.Day.{Day}
@@ -27,6 +32,7 @@ use Rattle.lines.specs.Lines.{ascii, byte, names, field, row, rowText, rowsText
 use Rattle.output.specs.Output.{writes}
 use Rattle.valuing.specs.Valuing.{strays, overfull, rowChecks}
 use Rattle.planfile.specs.PlanText.{valueNames, slotNames, planLines, planText}
+use Rattle.answering.specs.Answering.{lineNames, intervalNames, refusalText, answerText}
 use Rattle.dayfile.specs.Reading
 use Rattle.dayfile.specs.Reading.{headNames, trainNames, moveNames, position, readTrains, readMoves, readFile, stored, readDay}
 use Rattle.dayfile.specs.Writing.{fileText, moveRows, fileOf, dayText}
@@ -40,6 +46,7 @@ pub data Line : Type 0 where
   accepted : List ℕ → Day → Line
   acceptedSame : List ℕ → Line
   refused : List ℕ → ℕ → ℕ → Line
+  prints : List ℕ → List ℕ → Line
   writesDay : Day → ℕ → Answer ℕ → Line
   writesPlan : Day → List ℕ → ℕ → Answer ℕ → Line
 
@@ -50,6 +57,8 @@ Holds (accepted text d) = (readDay dayLimits text ≡ gives (yard d)) × (dayTex
 Holds (acceptedSame text) = (y : Yard) × (readDay dayLimits text ≡ gives y) × (dayText y ≡ text)
 -- the text is refused with this number and this line
 Holds (refused text k line) = readDay dayLimits text ≡ refuses k (line ∷ [])
+-- for this text yard-plan prints these bytes
+Holds (prints text bytes) = answerText dayLimits text ≡ bytes
 -- writing the day, or the plan of a row, into an output of so many bytes gives this answer
 Holds (writesDay d bytes a) = writes (dayChecks dayLimits (yard d)) (dayText (yard d)) bytes ≡ a
 Holds (writesPlan d row bytes a) = writes (rowChecks dayLimits (yard d) row) (planText (yard d) row) bytes ≡ a
@@ -209,6 +218,10 @@ table =
     -- the longest file, and one row more
     ∷ acceptedSame fullFile
     ∷ refused (fullFile ++ ascii "99999 99998 255\n") 7 149
+    -- what is printed: P1's plan file as 01 has it, the two lines of 9 for P9, the two lines of a text that is no day file
+    ∷ prints (withHead "4 2 2 1 1\n") (ascii "revisits splits cost\n1 7 8\ntrain slot\n1 2\n2 1\n3 2\n4 1\n")
+    ∷ prints (file "3 2 2 1 1\n" "1 1 1\n2 1 1\n3 1 1\n" "") (ascii "refusal first last trains\n9 1 1 3\n")
+    ∷ prints (withTrains "1 01 2\n2 1 2\n3 1 2\n4 1 2\n") (ascii "refusal line\n2 4\n")
     -- writing a day into an output that is just long enough, and one byte short; 8 before 10
     ∷ writesDay (paperDay 1 1 1) 129 (gives 129)
     ∷ writesDay (paperDay 1 1 1) 128 (refuses 10 (0 ∷ []))
@@ -237,12 +250,13 @@ passes : Line → Bool
 passes (accepted text d) = sameAnswer sameYard (readDay dayLimits text) (gives (yard d))
 passes (acceptedSame text) = isGiven (readDay dayLimits text)
 passes (refused text k line) = sameAnswer sameYard (readDay dayLimits text) (refuses k (line ∷ []))
+passes (prints text bytes) = sameList (answerText dayLimits text) bytes
 passes (writesDay d bytes a) = sameAnswer eqb (writes (dayChecks dayLimits (yard d)) (dayText (yard d)) bytes) a
 passes (writesPlan d row bytes a) = sameAnswer eqb (writes (rowChecks dayLimits (yard d) row) (planText (yard d) row) bytes) a
 
 -- the one computation
 computed : T (allPass passes table)
-unfolding allPass passes sameYard isGiven sameAnswer sameList table readDay readFile readTrains readMoves headNames trainNames moveNames position stored Reading.dayOf byte names field row more value within headRanges trainRanges moveRanges lowest writes dayText fileOf fileText moveRows listed joined rowText rowsText digitsWithin planLines valueNames slotNames sound shaped positionSound trainSound numberBefore unused receiverSound pairSound each Fold.some sum count lateSupplier revisiting revisits splitBoxes splitsTo splits weighed inWindow load roomy strays overfull
+unfolding allPass passes sameYard isGiven sameAnswer sameList table readDay readFile readTrains readMoves headNames trainNames moveNames position stored Reading.dayOf byte names field row more value within headRanges trainRanges moveRanges lowest writes dayText fileOf fileText moveRows listed joined rowText rowsText digitsWithin planLines valueNames slotNames sound shaped positionSound trainSound numberBefore unused receiverSound pairSound each Fold.some sum count lateSupplier revisiting revisits splitBoxes splitsTo splits weighed inWindow load roomy strays overfull answerText refusalText lineNames intervalNames cost inSlots allowed mask slotMask lower precedes bound exceeds overbooked allRows byKey pick bestOf overbookedFrom overbookedFirst overbookedLast firstOverbooked
 computed = tt
 
 -- the bound of `accepted-size` (the day file's Size.antt) is reached
@@ -298,6 +312,7 @@ line-holds (acceptedSame text) t =
     let (y, reads) = is-given (readDay dayLimits text) t in
     (y, reads, sym (read-write dayLimits text y reads))
 line-holds (refused text k line) t = same-answer sameYard same-yard (readDay dayLimits text) (refuses k (line ∷ [])) t
+line-holds (prints text bytes) t = same-list (answerText dayLimits text) bytes t
 line-holds (writesDay d bytes a) t = same-answer eqb eqb→eq (writes (dayChecks dayLimits (yard d)) (dayText (yard d)) bytes) a t
 line-holds (writesPlan d row bytes a) t = same-answer eqb eqb→eq (writes (rowChecks dayLimits (yard d) row) (planText (yard d) row) bytes) a t
 
