@@ -1,79 +1,19 @@
 //! Mode generated: known and drawn days, damaged and special texts, and ways to
 //! feed them.
 
-use crate::damage::draw_damaged;
-use crate::day_file::{read_day, write_day};
-use crate::draw::{draw_day, draw_sound, Random, DAMAGED_MOST};
+use crate::draw::Random;
 use crate::groups::{Tests, MOST_DIFFERENCES};
-use crate::heavy::{draw_shown, SHOWN_BITS};
-use crate::known::{EDGES, KNOWN_DAYS, SMALL_INPUTS, TEXTS};
-use crate::plan::broken;
-use crate::process::{compare_file, escaped, Feed};
-use crate::special::{
-    greatest_day, last_move, line_end_texts, long_texts, padded, special_texts, tiny_texts,
-};
+use crate::process::{compare_file, Feed};
+use crate::special::{line_end_texts, long_texts, special_texts, tiny_texts};
+use crate::texts::{damaged_texts, heavy_texts, known_texts, pieced_texts, sound_texts, Named};
 use std::fs;
-
-const SOUND_DAYS: usize = 2500;
-const DAMAGED_TEXTS: usize = 4000;
-const HEAVY_DAYS: usize = 8;
-const PIECED_TEXTS: usize = 24;
-
-const SOUND_SEED: u64 = 1_000_000;
-const DAMAGED_SEED: u64 = 2_000_000;
-const PIECES_SEED: u64 = 3_000_000;
-const HEAVY_SEED: u64 = 8_000_000;
 
 /// Mode self holds this program's answers to what the papers say; here
 /// yard-plan is held to them.
-fn known_group(tests: &mut Tests) {
-    tests.begin("known");
-    for day in KNOWN_DAYS.iter().chain(&SMALL_INPUTS).chain(&EDGES) {
-        let text = day.text();
-        tests.compare(day.name, &text, Feed::whole(&text));
-    }
-    for (name, text, _) in TEXTS {
-        tests.compare(name, text.as_bytes(), Feed::whole(text.as_bytes()));
-    }
-}
-
-fn sound_group(tests: &mut Tests) {
-    tests.begin("sound");
-    for index in 0..SOUND_DAYS {
-        let seed = SOUND_SEED + index as u64;
-        let day = draw_sound(&mut Random(seed), index);
-        let text = write_day(&day);
-        if read_day(&text).as_ref() != Ok(&day) {
-            broken(&format!("{day:?} is written as \"{}\"", escaped(&text)));
-        }
-        tests.compare(&format!("seed {seed}"), &text, Feed::whole(&text));
-    }
-}
-
-/// For each width days on which a sum of so many bits would show.
-fn heavy_group(tests: &mut Tests) {
-    tests.begin("heavy");
-    for bits in SHOWN_BITS {
-        for seed in (HEAVY_SEED..).take(HEAVY_DAYS) {
-            let text = write_day(&draw_shown(&mut Random(seed), bits));
-            tests.compare(&format!("{bits} bits, seed {seed}"), &text, Feed::whole(&text));
-        }
-    }
-}
-
-fn damaged_group(tests: &mut Tests) {
-    tests.begin("damaged");
-    for index in 0..DAMAGED_TEXTS {
-        let seed = DAMAGED_SEED + index as u64;
-        let (damages, text) = draw_damaged(&mut Random(seed));
-        tests.compare(&format!("seed {seed}, {damages}"), &text, Feed::whole(&text));
-    }
-}
-
-fn special_group(tests: &mut Tests) {
-    tests.begin("special");
-    for (name, text) in special_texts() {
-        tests.compare(&name, &text, Feed::whole(&text));
+fn group(tests: &mut Tests, name: &'static str, texts: impl IntoIterator<Item = Named>) {
+    tests.begin(name);
+    for (which, text) in texts {
+        tests.compare(&which, &text, Feed::whole(&text));
     }
 }
 
@@ -90,17 +30,9 @@ fn draw_pieces(random: &mut Random, text: &[u8]) -> Vec<Vec<u8>> {
 /// Input that arrives bit by bit: a short read is not the end of the text.
 fn pieces_group(tests: &mut Tests) {
     tests.begin("pieces");
-    for index in 0..PIECED_TEXTS {
-        let seed = PIECES_SEED + index as u64;
-        let mut random = Random(seed);
-        let text = match index % 6 {
-            0 => write_day(&greatest_day()),
-            1 => padded(&write_day(&greatest_day()), last_move().as_bytes(), 6000),
-            2 => draw_damaged(&mut random).1,
-            _ => write_day(&draw_day(&mut random, DAMAGED_MOST)),
-        };
+    for ((which, text), mut random) in pieced_texts() {
         let pieces = draw_pieces(&mut random, &text);
-        tests.compare(&format!("seed {seed}"), &text, Feed::Pipe(pieces));
+        tests.compare(&which, &text, Feed::Pipe(pieces));
     }
 }
 
@@ -120,11 +52,11 @@ fn file_group(tests: &mut Tests) {
 
 pub fn generated(program: &str) -> bool {
     let mut tests = Tests::new(program);
-    known_group(&mut tests);
-    sound_group(&mut tests);
-    heavy_group(&mut tests);
-    damaged_group(&mut tests);
-    special_group(&mut tests);
+    group(&mut tests, "known", known_texts());
+    group(&mut tests, "sound", sound_texts());
+    group(&mut tests, "heavy", heavy_texts());
+    group(&mut tests, "damaged", damaged_texts());
+    group(&mut tests, "special", special_texts());
     pieces_group(&mut tests);
     file_group(&mut tests);
     if tests.stopped() {

@@ -2,9 +2,11 @@
 //! comparison with what they do report and leave in lent memory.
 
 use crate::day_file::{read_day, Refusal};
+use crate::lent::{lent_text, returned, Lent, Marks};
 use crate::model::{value, within_tracks, within_windows, Day, Value};
 use crate::plan::{answer, broken, Answer, Interval};
 use crate::procedures::{first_come, myopic, Slots};
+use crate::sys;
 
 // ---------------------------------------------------------------------------
 // The report (order 1)
@@ -72,26 +74,6 @@ fn sound_report(day: &Day, least: usize, slots: &Slots) -> Report {
 
 type Call = unsafe extern "C" fn(*const u8, usize, *mut u64, usize, *mut i64) -> u64;
 
-mod sys {
-    #[link(name = "yard", kind = "static")]
-    extern "C" {
-        pub fn yard_first_come_first_served(
-            text: *const u8,
-            text_length: usize,
-            numbers: *mut u64,
-            numbers_length: usize,
-            saving: *mut i64,
-        ) -> u64;
-        pub fn yard_myopic(
-            text: *const u8,
-            text_length: usize,
-            numbers: *mut u64,
-            numbers_length: usize,
-            saving: *mut i64,
-        ) -> u64;
-    }
-}
-
 pub struct Baseline {
     pub name: &'static str,
     pub slots: fn(&Day) -> Slots,
@@ -103,41 +85,31 @@ pub const BASELINES: [Baseline; 2] = [
     Baseline { name: "myopic", slots: myopic, call: sys::yard_myopic },
 ];
 
-/// What lent memory holds before a call: values that no report has.
-const MARKS: [u64; 5] = [u64::MAX, u64::MAX - 1, u64::MAX - 2, u64::MAX - 3, u64::MAX - 4];
-const SAVING_MARK: i64 = i64::MIN;
-
-/// How many of the marked numbers are lent, in turn: too few, just enough, and
-/// more than are needed.
-const LENT: [usize; 4] = [0, 2, 3, 5];
-
-/// What a call returned and left.
-#[derive(Debug, PartialEq)]
-struct Left {
-    returned: u64,
-    numbers: [u64; MARKS.len()],
-    saving: i64,
-    text_kept: bool,
-}
+/// How many numbers are lent, in turn: too few, just enough, and more than are
+/// needed; a length of 256 has no low bits.
+const LENT: [usize; 4] = [0, 2, 3, 256];
 
 /// Numbers that are too few get 10 before the text is looked at.
-fn left_by(report: &Report, lent: usize) -> Left {
-    let mut numbers = MARKS;
+fn compare_one(call: Call, text: &[u8], lent: usize, report: &Report) -> Result<(), String> {
+    let marks = Marks::of(text.len() + lent / 2);
+    let mut text = lent_text(text, marks);
+    let mut numbers = Lent::marked("numbers", lent, marks);
+    let mut saving = Lent::marked("saving", 1, marks);
+    // The lengths are those of the memory, and nothing overlaps: that is all
+    // the functions ask.
+    let got = unsafe {
+        call(text.pointer(), text.length(), numbers.pointer(), numbers.length(), saving.pointer())
+    };
     if lent < 3 {
-        return Left { returned: 10, numbers, saving: 0, text_kept: true };
+        returned(got, 10)?;
+        numbers.kept()?;
+        saving.holds(&[0])?;
+    } else {
+        returned(got, report.refusal)?;
+        numbers.holds(&report.numbers.map(|number| number as u64))?;
+        saving.holds(&[report.saving])?;
     }
-    numbers[..3].copy_from_slice(&report.numbers.map(|number| number as u64));
-    Left { returned: report.refusal as u64, numbers, saving: report.saving, text_kept: true }
-}
-
-fn run(call: Call, text: &[u8], lent: usize) -> Left {
-    let (mut numbers, mut saving, mut copy) = (MARKS, SAVING_MARK, text.to_vec());
-    // The text is lent from memory that could be written, to see that it isn't.
-    let lent_text: *const u8 = copy.as_mut_ptr();
-    // The lengths are those of the memory or less, and nothing overlaps: that
-    // is all the functions ask.
-    let returned = unsafe { call(lent_text, text.len(), numbers.as_mut_ptr(), lent, &mut saving) };
-    Left { returned, numbers, saving, text_kept: copy == text }
+    text.kept()
 }
 
 impl Baseline {
@@ -152,11 +124,8 @@ impl Baseline {
     /// Calls the library and compares; an error says what differs.
     pub fn compare(&self, text: &[u8], report: &Report) -> Result<(), String> {
         for lent in LENT {
-            let (wanted, got) = (left_by(report, lent), run(self.call, text, lent));
-            if got != wanted {
-                let name = self.name;
-                return Err(format!("{name}, {lent} lent: expected {wanted:?}\n  got {got:?}"));
-            }
+            compare_one(self.call, text, lent, report)
+                .map_err(|what| format!("{}, {lent} numbers: {what}", self.name))?;
         }
         Ok(())
     }

@@ -1,51 +1,80 @@
-//! The independent test program of yard-plan and of the library's baselines.
+//! The independent test program of yard-plan and of the library's functions.
 //!
 //! It is a second opinion, written from the papers alone: its own reader of
 //! day files, its own planner that tries every assignment of slots within the
 //! windows, its own printer, and its own two baselines. The program under test
 //! is run as a process and its output compared byte for byte with what 01
-//! says; the baselines are called in the static library.
+//! says. The functions of include/yard.h are called in the static library,
+//! with marked memory: what they return is compared, and each byte that was
+//! lent or lies around it.
 //!
 //!     days expect < day.txt        prints what yard-plan has to print
 //!     days examples PROGRAM DIR    runs the stored days of DIR
 //!     days generated PROGRAM       runs known and drawn days and damaged texts
 //!     days baselines               calls the library's two baselines on days
+//!     days calls                   calls the library's other functions on the
+//!                                  texts of generated: answering, planning
+//!                                  with and without areas lent, checking,
+//!                                  valuing, the version
+//!     days stack FUNCTION          calls one with little stack, for calls
 //!     days self                    checks this program on known days
 //!
 //! Words: an assignment is 01's row of slots, an interval its stretch, a mask
 //! its set number, a baseline a yardstick of order 1 in 02. A row is here
-//! always a row of values in a file.
+//! a row of values in a file, but in the parts on the calls the memory that
+//! yard.h names row, any bytes.
 //!
 //! Build: rt staticlib yard
 //!        rustc -O --edition 2021 -L target/staticlib -o target/tests/days tests/days/main.rs
 
 mod baselines;
+mod call_answer;
+mod call_check;
+mod call_plan;
+mod call_value;
+mod call_workspace;
+mod calls;
+mod case;
 mod damage;
 mod day_file;
 mod draft;
 mod draw;
 mod generated;
 mod groups;
+mod header;
 mod heavy;
 mod known;
+mod lent;
 mod library;
 mod misreadings;
+mod misvaluings;
 mod model;
 mod plan;
 mod procedures;
 mod process;
 mod reports;
+mod rotation;
+mod seen;
 mod self_baselines;
+mod self_calls;
 mod self_check;
 mod special;
+mod stack;
+mod sys;
+mod texts;
+mod threads;
+mod trials;
+mod valuing;
 
 use crate::baselines::baselines;
+use crate::calls::calls;
 use crate::generated::generated;
 use crate::groups::Tests;
 use crate::model::MOST_BYTES_READ;
 use crate::plan::expected;
 use crate::process::{compare_file, escaped};
 use crate::self_check::check_self;
+use crate::stack::little_stack;
 use std::collections::BTreeSet;
 use std::fs::{self, File};
 use std::io::{self, Read, Write};
@@ -125,9 +154,12 @@ fn main() -> ExitCode {
         ["examples", program, directory] => examples(program, Path::new(directory)),
         ["generated", program] => generated(program),
         ["baselines"] => baselines(),
+        ["calls"] => calls(),
+        ["stack", name] => little_stack(name),
         ["self"] => check_self(),
         _ => {
-            let modes = "expect | examples PROGRAM DIR | generated PROGRAM | baselines | self";
+            let modes =
+                "expect | examples PROGRAM DIR | generated PROGRAM | baselines | calls | self";
             eprintln!("usage: days {modes}");
             return ExitCode::from(2);
         }

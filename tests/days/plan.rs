@@ -63,19 +63,25 @@ pub fn best(day: &Day) -> Option<(Vec<usize>, Value)> {
     Some((assignment, value))
 }
 
-/// The overbooked interval with the smallest first slot and for it the
-/// smallest last slot.
-fn first_overbooked(day: &Day) -> Option<Interval> {
+/// The overbooked intervals, by their first slots and for each by their last.
+pub fn overbooked(day: &Day) -> Vec<Interval> {
+    let mut intervals = Vec::new();
     for first in 1..=day.slots {
         for last in first..=day.slots {
             let inside = |train: &&Train| first <= train.first && train.last <= last;
             let bound = day.trains.iter().filter(inside).count();
             if bound > day.tracks * (last - first + 1) {
-                return Some(Interval { first, last, bound });
+                intervals.push(Interval { first, last, bound });
             }
         }
     }
-    None
+    intervals
+}
+
+/// The overbooked interval with the smallest first slot and for it the
+/// smallest last slot.
+fn first_overbooked(day: &Day) -> Option<Interval> {
+    overbooked(day).first().copied()
 }
 
 /// What yard-plan has to answer to a text.

@@ -6,9 +6,7 @@ use crate::library::{planned, report, Planned, Report, BASELINES};
 use crate::misreadings::MISREADINGS;
 use crate::procedures::myopic_by;
 use crate::process::escaped;
-
-/// What was seen less often has not been tested.
-const LEAST_SEEN: usize = 30;
+use crate::seen::LEAST_SEEN;
 
 /// A baseline as cheap as the plan, a dearer one, and the refusals.
 const OUTCOMES: [&str; 11] = ["equal", "dearer", "1", "2", "3", "4", "5", "6", "7", "9", "14"];

@@ -13,6 +13,7 @@ use crate::model::{
 };
 use crate::plan::{answer, best, expected, Answer};
 use crate::self_baselines::check_baselines;
+use crate::self_calls::check_calls;
 use crate::special::{dearest_day, greatest_day, last_move, padded};
 
 /// 01's two files of case P1, as it prints them.
@@ -135,5 +136,6 @@ pub fn check_self() -> bool {
     check_printing(&mut tests);
     check_sizes(&mut tests);
     check_baselines(&mut tests);
+    check_calls(&mut tests);
     tests.finish()
 }

@@ -1,0 +1,129 @@
+//! yard_plan: slots and numbers of the plan, or the first of its refusals: 10
+//! for the numbers, 1 to 7, 10 for the row, 9.
+
+use crate::case::{unless_too_few, Case, Outcome, KINDS};
+use crate::header::MOST_TRAINS;
+use crate::lent::{lent_text, returned, Lent, Marks};
+use crate::model::Day;
+use crate::plan::{overbooked, Interval};
+use crate::rotation::{chosen, supposed};
+use crate::seen::Seen;
+use crate::sys;
+
+/// The lengths of row and numbers, for a day of so many trains.
+pub struct Lending {
+    name: &'static str,
+    row: fn(usize) -> usize,
+    numbers: usize,
+}
+
+const fn lending(name: &'static str, row: fn(usize) -> usize, numbers: usize) -> Lending {
+    Lending { name, row, numbers }
+}
+
+/// With these the day is planned. A length of 256 has no low bits.
+#[rustfmt::skip]
+const SUFFICIENT: [Lending; 5] = [
+    lending("row n", |n| n, 3),
+    lending("row n, 5 numbers", |n| n, 5),
+    lending("row n + 1", |n| n + 1, 3),
+    lending("row YARD_MOST_TRAINS, 5 numbers", |_| MOST_TRAINS, 5),
+    lending("row 256, 256 numbers", |_| 256, 256),
+];
+
+#[rustfmt::skip]
+const SHORT: [Lending; 9] = [
+    lending("row n - 1", |n| n - 1, 3),
+    lending("row n - 1, 5 numbers", |n| n - 1, 5),
+    lending("no row", |_| 0, 3),
+    lending("no row, 5 numbers", |_| 0, 5),
+    lending("row n, no number", |n| n, 0),
+    lending("row n, 1 number", |n| n, 1),
+    lending("row n, 2 numbers", |n| n, 2),
+    lending("row YARD_MOST_TRAINS, 2 numbers", |_| MOST_TRAINS, 2),
+    lending("no row, 2 numbers", |_| 0, 2),
+];
+
+const INTERVALS: [&str; 4] = [
+    "9: not the whole day",
+    "9: other trains are bound elsewhere",
+    "9: another last slot would do",
+    "9: another first slot would do",
+];
+
+fn on_kind(name: &str, kind: &str) -> String {
+    format!("{name} on {kind}")
+}
+
+pub fn required() -> Vec<String> {
+    let mut required = INTERVALS.map(str::to_string).to_vec();
+    for lending in SUFFICIENT.iter().chain(&SHORT) {
+        required.extend(KINDS.map(|kind| on_kind(lending.name, kind)));
+    }
+    required
+}
+
+/// What there is to choose from on a day with 9.
+fn note_intervals(seen: &mut Seen, day: &Day) {
+    let intervals = overbooked(day);
+    let Some(Interval { first, last, bound }) = intervals.first() else { return };
+    seen.note_if((*first, *last) != (1, day.slots), INTERVALS[0]);
+    seen.note_if(*bound < day.trains.len(), INTERVALS[1]);
+    let another = |other: &Interval| other.first == *first && other.last != *last;
+    seen.note_if(intervals.iter().any(another), INTERVALS[2]);
+    seen.note_if(intervals.iter().any(|other| other.first != *first), INTERVALS[3]);
+}
+
+/// What a call that plans has to return where memory enough is lent or not,
+/// and the slots that it writes.
+pub fn planned(case: &Case, suffices: bool, numbers: usize) -> (Outcome, Vec<u8>) {
+    let outcome = match case.read {
+        Ok(_) if !suffices => Outcome::carrying(10, 0),
+        _ => case.planned(),
+    };
+    let outcome = unless_too_few(numbers, outcome);
+    let slots = match case.plan() {
+        Some(plan) if outcome.refusal == 0 => plan.assignment.iter().map(|&slot| slot as u8),
+        _ => return (outcome, Vec::new()),
+    };
+    (outcome, slots.collect())
+}
+
+fn compare_one(case: &Case, n: usize, lending: &Lending, marks: Marks) -> Result<(), String> {
+    let mut text = lent_text(case.text, marks);
+    let mut row = Lent::marked_room("row", (lending.row)(n), MOST_TRAINS, marks);
+    let mut numbers = Lent::marked("numbers", lending.numbers, marks);
+    let mut trains = Lent::marked("trains", 1, marks);
+    let (outcome, slots) = planned(case, row.length() >= n, numbers.length());
+    let got = unsafe {
+        sys::yard_plan(
+            text.pointer(),
+            text.length(),
+            row.pointer(),
+            row.length(),
+            numbers.pointer(),
+            numbers.length(),
+            trains.pointer(),
+        )
+    };
+    returned(got, outcome.refusal)?;
+    numbers.holds(&outcome.written(numbers.length()))?;
+    trains.holds(&[slots.len()])?;
+    row.holds(&slots)?;
+    text.kept()
+}
+
+pub fn compare(case: &Case, seen: &mut Seen) -> Result<(), String> {
+    let (n, _) = supposed(case);
+    if let Ok(day) = &case.read {
+        note_intervals(seen, day);
+    }
+    let sufficient = SUFFICIENT.iter().enumerate();
+    let sufficient = sufficient.filter(|(way, _)| chosen(case, *way, SUFFICIENT.len()));
+    for (turn, lending) in sufficient.chain(SHORT.iter().enumerate()) {
+        seen.note(&on_kind(lending.name, case.kind()));
+        compare_one(case, n, lending, Marks::of(case.index + turn))
+            .map_err(|what| format!("{} for {n} trains: {what}", lending.name))?;
+    }
+    Ok(())
+}

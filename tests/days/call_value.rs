@@ -1,0 +1,209 @@
+//! yard_value: the model's three numbers for a row of slots, or the first of
+//! its refusals: 10, 1 to 7, 11, 12, 13.
+
+use crate::case::{unless_too_few, Case, Outcome, KINDS};
+use crate::draw::Random;
+use crate::lent::{lent_text, returned, Lent, Marks};
+use crate::misvaluings::MISVALUINGS;
+use crate::model::{Day, Value};
+use crate::plan::Plan;
+use crate::rotation::seldom;
+use crate::seen::Seen;
+use crate::sys;
+use crate::trials::{trials, trials_unread};
+use crate::valuing::{load, outside, overfull, valued};
+
+const SEED: u64 = 9_000_000;
+
+/// Numbers lent: enough, and too few, in turn. A length of 256 has no low bits.
+const ENOUGH: [usize; 4] = [3, 5, 4, 256];
+const TOO_FEW: [usize; 3] = [0, 1, 2];
+
+// ---------------------------------------------------------------------------
+// What has to be seen
+// ---------------------------------------------------------------------------
+
+const LENGTHS: [&str; 7] = [
+    "11: no slot",
+    "11: a slot too few",
+    "11: a slot too many",
+    "11: more",
+    "11: the low 8 bits of the length are right",
+    "11 where 12 holds too",
+    "11 where 13 holds too",
+];
+
+const WINDOWS: [&str; 9] = [
+    "12: slot 0",
+    "12: slot T + 1",
+    "12: slot 255",
+    "12: a slot of the day below the window",
+    "12: a slot of the day above the window",
+    "12: the low bits are inside",
+    "12: several positions",
+    "12: the last position alone",
+    "12 where 13 holds too",
+];
+
+const TRACKS: [&str; 4] =
+    ["13: several slots", "13: a train too many", "13: the last slot alone", "13: on a day with 9"];
+
+const VALUES: [&str; 7] = [
+    "0: the plan",
+    "0: another assignment",
+    "0: as dear as the plan, another assignment",
+    "0: as dear as the plan, with other numbers",
+    "0: a full slot",
+    "0: split moves of 2^14 or more",
+    "0: a cost of 2^30 or more",
+];
+
+const UNREAD: [&str; 7] = ["1", "2", "3", "4", "5", "6", "7"];
+
+const FEW: [&str; 3] = ["10 before 0", "10 before 1 to 7", "10 before 11 to 13"];
+
+fn lent_on(lent: usize, kind: &str) -> String {
+    format!("{lent} numbers on {kind}")
+}
+
+pub fn required() -> Vec<String> {
+    let lists: [&[&str]; 6] = [&LENGTHS, &WINDOWS, &TRACKS, &VALUES, &UNREAD, &FEW];
+    let misvalued = MISVALUINGS.iter().map(|(name, _)| *name);
+    let mut required: Vec<String> =
+        lists.concat().into_iter().chain(misvalued).map(str::to_string).collect();
+    for lent in ENOUGH.into_iter().chain(TOO_FEW) {
+        required.extend(KINDS.map(|kind| lent_on(lent, kind)));
+    }
+    required
+}
+
+fn note_length(seen: &mut Seen, day: &Day, slots: &[u8]) {
+    let (n, length) = (day.trains.len(), slots.len());
+    seen.note_if(length == 0, LENGTHS[0]);
+    seen.note_if(length + 1 == n, LENGTHS[1]);
+    seen.note_if(length == n + 1, LENGTHS[2]);
+    seen.note_if(length > n + 1, LENGTHS[3]);
+    seen.note_if(length % 256 == n, LENGTHS[4]);
+    seen.note_if(!outside(day, slots).is_empty(), LENGTHS[5]);
+    seen.note_if(!overfull(day, slots).is_empty(), LENGTHS[6]);
+}
+
+fn note_window(seen: &mut Seen, day: &Day, slots: &[u8]) {
+    let outside = outside(day, slots);
+    let train = &day.trains[outside[0]];
+    let slot = usize::from(slots[outside[0]]);
+    let inside = |slot: usize| train.first <= slot && slot <= train.last;
+    seen.note_if(slot == 0, WINDOWS[0]);
+    seen.note_if(slot == day.slots + 1, WINDOWS[1]);
+    seen.note_if(slot == 255, WINDOWS[2]);
+    seen.note_if(0 < slot && slot < train.first, WINDOWS[3]);
+    seen.note_if(train.last < slot && slot <= day.slots, WINDOWS[4]);
+    seen.note_if([8, 16, 32, 64, 128].iter().any(|bits| inside(slot % bits)), WINDOWS[5]);
+    seen.note_if(outside.len() > 1, WINDOWS[6]);
+    seen.note_if(outside == [day.trains.len() - 1] && outside[0] > 0, WINDOWS[7]);
+    seen.note_if(!overfull(day, slots).is_empty(), WINDOWS[8]);
+}
+
+fn note_tracks(seen: &mut Seen, day: &Day, slots: &[u8], plan: Option<&Plan>) {
+    let overfull = overfull(day, slots);
+    seen.note_if(overfull.len() > 1, TRACKS[0]);
+    seen.note_if(load(day, slots, overfull[0]) == day.tracks + 1, TRACKS[1]);
+    seen.note_if(overfull == [day.slots] && day.slots > 1, TRACKS[2]);
+    seen.note_if(plan.is_none(), TRACKS[3]);
+}
+
+fn note_value(seen: &mut Seen, day: &Day, slots: &[u8], plan: &Plan, outcome: &Outcome) {
+    let assignment: Vec<usize> = slots.iter().map(|&slot| usize::from(slot)).collect();
+    let Value { revisits, splits, cost } = plan.value;
+    let [_, own_splits, own_cost] = outcome.numbers;
+    let full = |slot| load(day, slots, slot) == day.tracks;
+    let other = assignment != plan.assignment;
+    seen.note_if(!other, VALUES[0]);
+    seen.note_if(other, VALUES[1]);
+    seen.note_if(other && own_cost == cost, VALUES[2]);
+    seen.note_if(own_cost == cost && outcome.numbers != [revisits, splits, cost], VALUES[3]);
+    seen.note_if((1..=day.slots).any(full), VALUES[4]);
+    seen.note_if(own_splits >= 1 << 14, VALUES[5]);
+    seen.note_if(own_cost >= 1 << 30, VALUES[6]);
+    for (name, misvalue) in MISVALUINGS {
+        seen.note_if(Outcome::value(misvalue(day, &assignment)) != *outcome, name);
+    }
+}
+
+fn note(seen: &mut Seen, case: &Case, slots: &[u8], outcome: &Outcome) {
+    match (&case.read, outcome.refusal) {
+        (Err(refusal), _) => seen.note(UNREAD[refusal.number - 1]),
+        (Ok(day), 11) => note_length(seen, day, slots),
+        (Ok(day), 12) => note_window(seen, day, slots),
+        (Ok(day), 13) => note_tracks(seen, day, slots, case.plan()),
+        (Ok(day), _) => {
+            let plan = case.plan().expect("a plan, an assignment being allowed");
+            note_value(seen, day, slots, plan, outcome);
+        }
+    }
+    match outcome.refusal {
+        0 => seen.note(FEW[0]),
+        1..=7 => seen.note(FEW[1]),
+        _ => seen.note(FEW[2]),
+    }
+}
+
+// ---------------------------------------------------------------------------
+// The comparison
+// ---------------------------------------------------------------------------
+
+fn compare_one(
+    case: &Case,
+    slots: &[u8],
+    lent: usize,
+    marks: Marks,
+    outcome: Outcome,
+) -> Result<(), String> {
+    let outcome = unless_too_few(lent, outcome);
+    let mut text = lent_text(case.text, marks);
+    let mut row = Lent::holding("row", slots, marks);
+    let mut numbers = Lent::marked("numbers", lent, marks);
+    let got = unsafe {
+        sys::yard_value(
+            text.pointer(),
+            text.length(),
+            row.pointer(),
+            row.length(),
+            numbers.pointer(),
+            numbers.length(),
+        )
+    };
+    returned(got, outcome.refusal)?;
+    numbers.holds(&outcome.written(lent))?;
+    row.kept()?;
+    text.kept()
+}
+
+/// Shortened where nobody would read on.
+fn shown(slots: &[u8]) -> String {
+    let (length, slots) = (slots.len(), &slots[..slots.len().min(40)]);
+    format!("of {length}, {slots:?}")
+}
+
+pub fn compare(case: &Case, seen: &mut Seen) -> Result<(), String> {
+    let mut random = Random(SEED + case.index as u64);
+    let plan = case.plan().map(|plan| &plan.assignment[..]);
+    let rows = match &case.read {
+        Ok(day) => trials(&mut random, day, plan, seldom(case)),
+        Err(_) => trials_unread(&mut random),
+    };
+    for (turn, slots) in rows.iter().enumerate() {
+        let outcome = match &case.read {
+            Ok(day) => valued(day, slots),
+            Err(refusal) => Outcome::unread(*refusal),
+        };
+        note(seen, case, slots, &outcome);
+        let next = case.index + turn;
+        for lent in [ENOUGH[next % ENOUGH.len()], TOO_FEW[next % TOO_FEW.len()]] {
+            seen.note(&lent_on(lent, case.kind()));
+            compare_one(case, slots, lent, Marks::of(next + turn), outcome)
+                .map_err(|what| format!("row {}, {lent} numbers: {what}", shown(slots)))?;
+        }
+    }
+    Ok(())
+}
