@@ -60,8 +60,8 @@ uint64_t yard_answer(const uint8_t *text, size_t text_length, uint8_t *out, size
  *                          the slots, in the order of the day file, counted from 1; bytes beyond stay as they were, after a refusal all.
  * numbers, numbers_length  room for at least three numbers. Afterwards the first three hold revisits, split moves and cost; after a
  *                          refusal what it carries, then zeros: 1 to 7 the line; 9 the first and last slot of the overbooked stretch and
- *                          the number of trains bound inside; 10 nothing. Numbers beyond stay as they were.
- * trains                   holds the number of slots written afterwards: the number of trains of the day, or 0 after a refusal.
+ *                          the number of trains bound inside; 10 three zeros. Numbers beyond stay as they were.
+ * trains                   holds the number of slots written afterwards: the number of trains of the day, or 0 after any refusal.
  *
  * Returns 0, or the refusal: 10 where numbers_length is below 3 (then no number has changed), else 1 to 7, else 10 where row_length is
  * below the number of trains, else 9. */
@@ -93,7 +93,7 @@ uint64_t yard_check(const uint8_t *text, size_t text_length, uint64_t *line);
  * text, text_length        the day file. No byte of it changes.
  * row, row_length          the slot of each train, in the order of the day file, slots counted from 1. No byte of it changes.
  * numbers, numbers_length  room for at least three numbers. Afterwards the first three hold revisits, split moves and cost; after a
- *                          refusal what it carries, then zeros: 1 to 7 the line, 11 nothing, 12 the lowest position outside its window,
+ *                          refusal what it carries, then zeros: 1 to 7 the line, 11 three zeros, 12 the lowest position outside its window,
  *                          13 the lowest slot with too many trains, both counted from 1. Numbers beyond stay as they were.
  *
  * Returns 0, or the refusal: 10 where numbers_length is below 3 (then no number has changed), else 1 to 7, 11, 12 or 13. */
@@ -112,7 +112,7 @@ uint64_t yard_value(const uint8_t *text, size_t text_length, const uint8_t *row,
  *                          procedure's row; after a refusal what it carries, then zeros: 1 to 7 the line; 9 the first and last slot of
  *                          the overbooked stretch and the number of trains bound inside; 14 the lowest position that is left without a
  *                          slot, counted from 1. Numbers beyond stay as they were.
- * saving                   holds the saving afterwards, 0 after a refusal.
+ * saving                   holds the saving afterwards, 0 after any refusal.
  *
  * Each returns 0, or the refusal: 10 where numbers_length is below 3 (then no number has changed), else 1 to 7, 9 or 14. A day with 14
  * has a plan. */
