@@ -4,7 +4,7 @@
 use mathlib.Core.Path.{_≡_, refl}
 use mathlib.Core.Bool.{not, _&&_}
 use mathlib.Core.List.{List, []}
-use mathlib.Core.Logic.{_⊎_, inl, inr, ⊎-elim}
+use mathlib.Core.Logic.{_⊎_, ⊎-elim}
 use Prim.Native.Nat.{ℕ}
 use native.Mathlib.Omega.{arith}
 use denote.Enum.Declared.{tagOf}
@@ -12,7 +12,7 @@ use lib.Dec.{T, eqb}
 use lib.ListN.{drop}
 use borrow.Author.Tests.{eq-eqb}
 use Rattle.fold.specs.Test.{of-true, both-of, not-of}
-use Rattle.day.specs.Answer.{Answer, gives, onGiven, refusal, Check}
+use Rattle.day.specs.Answer.{Answer, gives, refusal, Check}
 use Rattle.day.specs.declared.Refusal.{Refusal}
 use Rattle.lines.specs.Lines.{names, row}
 use Rattle.lines.specs.Reader.{theEnd, namesFound, rowFound, found, Answers}
@@ -21,10 +21,7 @@ use Rattle.lines.specs.declared.Line.{Line}
 use Rattle.lines.specs.declared.Line.the-variants.{Names, Row, End, Refused}
 use Rattle.lines.proofs.Line.{the-type}
 use Rattle.dayfile.specs.Reading.{RowRest, readNames, readRow}
-use Rattle.dayread.specs.Steps.{ReadsRow, ReadsMove, row-not-names, row-not-end, row-refused, end-or-row, names-not-row, names-not-end, names-refused}
-use Rattle.dayread.specs.Sections.{Hands, NamesTo}
-use Rattle.dayread.specs.declared.Step.{Step}
-use Rattle.dayread.specs.declared.Step.the-variants.{Next, Refused as Stopped}
+use Rattle.dayread.specs.Steps.{ReadsRow, ReadsMove, refusalOf, row-not-names, row-not-end, row-refused, end-or-row, names-not-row, names-not-end, names-refused}
 
 -- the tag is one of three
 abbrev OneOf : ℕ → ℕ → ℕ → ℕ → Type 0
@@ -62,47 +59,32 @@ move-handed t word line checks s r h f =
     at-row End n0 h f = absurd (row-not-end line (row 2 s) f)
     at-row (Refused r) n0 h f = (row-refused line (row 2 s) r _ f, n0)
 
--- ---- what the step after such a line is
+-- ---- the refusal to hand up where the line due was not found
 
--- the step stops with the refusal that is the answer
-pub record Stops {X : Type 0} (answer : Answer X) (r : Step) : Type 0 where
-  pub refused : Refusal
-  pub step : r ≡ Stopped refused
-  pub is : answer ≡ refusal refused
+pub row-refusal : (k : ℕ) (t : List ℕ) (answer : Answer RowRest) (due x : Refusal) (line : Line)
+    → OneOf (tagOf the-type line) 0 2 3 → ReadsRow k t answer line → x ≡ refusalOf line due → answer ≡ refusal x
+row-refusal k t answer due x (Names next) h f is = absurd f
+row-refusal k t answer due x (Row a b c d e next) h f is = absurd (none-of 1 0 2 3 h tt)
+row-refusal k t answer due x End h f is = absurd f
+row-refusal k t answer due x (Refused r) h f is = rw is f
 
-pub row-stops : (k : ℕ) (t : List ℕ) (answer : Answer RowRest) (p : ℕ) (line : Line) (r : Step)
-    → OneOf (tagOf the-type line) 0 2 3 → ReadsRow k t answer line → Hands line p r → Stops answer r
-row-stops k t answer p (Names next) r h f g = absurd f
-row-stops k t answer p (Row a b c d e next) r h f g = absurd (none-of 1 0 2 3 h tt)
-row-stops k t answer p End r h f g = absurd f
-row-stops k t answer p (Refused x) r h f g = record { refused = x; step = g; is = f }
+-- where neither a move's row nor the end was found
+pub move-refusal : (t s : List ℕ) (answer : Answer RowRest) (due x : Refusal) (line : Line)
+    → OneOf (tagOf the-type line) 0 1 3 → OneOf (tagOf the-type line) 0 2 3 → ReadsMove t s answer line → x ≡ refusalOf line due → (answer ≡ refusal x) × (s ≡ [] → ⊥)
+move-refusal t s answer due x (Names next) g h f is = absurd f
+move-refusal t s answer due x (Row a b c d e next) g h f is = absurd (none-of 1 0 2 3 h tt)
+move-refusal t s answer due x End g h f is = absurd (none-of 2 0 1 3 g tt)
+move-refusal t s answer due x (Refused r) g h f is = (rw is (f .0), f .1)
 
--- the moves end, or a move's row is refused
-pub move-stops : (t s : List ℕ) (answer : Answer RowRest) (p : ℕ) (line : Line) (r : Step)
-    → OneOf (tagOf the-type line) 0 2 3 → ReadsMove t s answer line → Hands line p r
-    → ((r ≡ Next p) × (s ≡ [])) ⊎ (Stops answer r × (s ≡ [] → ⊥))
-move-stops t s answer p (Names next) r h f g = absurd f
-move-stops t s answer p (Row a b c d e next) r h f g = absurd (none-of 1 0 2 3 h tt)
-move-stops t s answer p End r h f g = inl (g, f)
-move-stops t s answer p (Refused x) r h f g = inr (record { refused = x; step = g; is = f .0 }, f .1)
+pub names-refusal : (t word : List ℕ) (n : ℕ) (s : List ℕ) (due x : Refusal) (line : Line)
+    → OneOf (tagOf the-type line) 1 2 3 → Answers t (namesFound n (names word s)) line → x ≡ refusalOf line due → readNames word n s ≡ refusal x
+names-refusal t word n s due x (Names next) h f is = absurd (none-of 0 1 2 3 h tt)
+names-refusal t word n s due x (Row a b c d e next) h f is = absurd (names-not-row n (names word s) (f .values) (drop next t) (f .is))
+names-refusal t word n s due x End h f is = absurd (names-not-end n (names word s) f)
+names-refusal t word n s due x (Refused r) h f is = rw is (names-refused n (names word s) r (λ u q. gives q) f)
 
-pub names-stop : (t word : List ℕ) (n : ℕ) (s : List ℕ) (p : ℕ) (line : Line) (r : Step)
-    → OneOf (tagOf the-type line) 1 2 3 → Answers t (namesFound n (names word s)) line → Hands line p r → NamesTo t (readNames word n s) r
-names-stop t word n s p (Names next) r h f g = absurd (none-of 0 1 2 3 h tt)
-names-stop t word n s p (Row a b c d e next) r h f g = absurd (names-not-row n (names word s) (f .values) (drop next t) (f .is))
-names-stop t word n s p End r h f g = absurd (names-not-end n (names word s) f)
-names-stop t word n s p (Refused x) r h f g = rw g (names-refused n (names word s) x (λ u q. gives q) f)
-
-pub goes-on : (p : ℕ) (line : Line) → OneOf (tagOf the-type line) 0 1 2 → Hands line p (Next p)
-goes-on p (Names next) h = refl
-goes-on p (Row a b c d e next) h = refl
-goes-on p End h = refl
-goes-on p (Refused x) h = absurd (none-of 3 0 1 2 h tt)
-
--- where a names line is due, any other answer of the line reader is its refusal
-pub head-handed : (t word : List ℕ) (k n : ℕ) (s : List ℕ) (f : List ℕ → Answer RowRest) (line : Line)
-    → OneOf (tagOf the-type line) 1 2 3 → Answers t (namesFound n (names word s)) line → ReadsRow k t (onGiven (readNames word n s) f) line
-head-handed t word k n s f (Names next) h g = absurd (none-of 0 1 2 3 h tt)
-head-handed t word k n s f (Row a b c d e next) h g = absurd (names-not-row n (names word s) (g .values) (drop next t) (g .is))
-head-handed t word k n s f End h g = absurd (names-not-end n (names word s) g)
-head-handed t word k n s f (Refused x) h g = rw (names-refused n (names word s) x (λ u q. gives q) g)
+pub other-line : (due : Refusal) (line : Line) → OneOf (tagOf the-type line) 0 1 2 → due ≡ refusalOf line due
+other-line due (Names next) h = refl
+other-line due (Row a b c d e next) h = refl
+other-line due End h = refl
+other-line due (Refused x) h = absurd (none-of 3 0 1 2 h tt)

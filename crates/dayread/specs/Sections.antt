@@ -16,8 +16,6 @@ use Rattle.day.specs.SoundLaws.{within-is}
 use Rattle.day.specs.declared.Limits.{Limits}
 use Rattle.day.specs.declared.Refusal.{Refusal}
 use Rattle.lines.specs.Lines.{rowText}
-use Rattle.lines.specs.declared.Line.{Line}
-use Rattle.lines.specs.declared.Line.the-variants.{Names, Row, End, Refused}
 use Rattle.dayfile.specs.Reading.{field1, field2, field3, trainChecks, RowRest, readRow, Rows, addRow, readTrains, readMoves, moveChecks, position, isListed, stored, placeOf}
 use Rattle.dayfile.specs.Files.{row-line-read, moves-end, moves-row, row-longer}
 use Rattle.dayread.specs.Steps.{rowRest, RowTo}
@@ -25,13 +23,6 @@ use Rattle.dayread.specs.declared.Step.{Step}
 use Rattle.dayread.specs.declared.Step.the-variants.{Next, Refused as Stopped}
 
 -- ---- steps that go on at a place of the text t, or stop with a refusal
-
--- a refused line stops, any other goes on at the place p
-abbrev pub Hands : Line → ℕ → Step → Type 0
-Hands (Names next) p r = r ≡ Next p
-Hands (Row a b c d e next) p r = r ≡ Next p
-Hands End p r = r ≡ Next p
-Hands (Refused x) p r = r ≡ Stopped x
 
 abbrev pub NamesTo : List ℕ → Answer (List ℕ) → Step → Type 0
 NamesTo t answer (Next p) = (answer ≡ gives (drop p t)) × (p ≤ length t)

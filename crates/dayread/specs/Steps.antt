@@ -2,6 +2,7 @@
 -- refused is handed up, a row that was read goes on to its checks.
 -- Assumes nothing.
 use mathlib.Core.Path.{_≡_, refl, ap, _∙_}
+use mathlib.Core.Bool.{Bool, true, false}
 use mathlib.Core.List.{List, [], _∷_}
 use mathlib.Core.Logic.{_⊎_, inl, inr}
 use Prim.Native.Nat.{ℕ, suc, _≤_}
@@ -9,7 +10,7 @@ use native.Mathlib.Omega.{arith}
 use lib.Dec.{eqb}
 use lib.ListN.{length, getD, take, drop}
 use lib.Seq.{length-take-le, getD-take}
-use Rattle.day.specs.Answer.{Answer, gives, number, carried, refusal, Check, checked}
+use Rattle.day.specs.Answer.{Answer, gives, refuses, number, carried, refusal, Check, must, checked}
 use Rattle.day.specs.declared.Refusal.{Refusal}
 use Rattle.decimal.specs.Parsed.{Parsed, fail, got}
 use Rattle.lines.specs.Lines.{row}
@@ -18,9 +19,6 @@ use Rattle.lines.specs.Reader.{aNamesLine, aRow, theEnd, aRefusal, namesFound, 
 use Rattle.lines.specs.declared.Due.the-variants.{RowOrEnd}
 use Rattle.lines.specs.declared.Line.{Line}
 use Rattle.lines.specs.declared.Line.the-variants.{Names, Row, End, Refused}
-use Rattle.day.specs.AnswerLaws.{AllHold, checked-holds}
-use Rattle.dayread.specs.declared.Verdict.{Verdict}
-use Rattle.dayread.specs.declared.Verdict.the-variants.{Fine, Broken}
 use Rattle.fold.specs.Fold.{lowest}
 use Rattle.fold.specs.Sums.{lowest-ext}
 use Rattle.dayfile.specs.Reading.{orRefuse, RowRest, readRow, position}
@@ -39,6 +37,13 @@ ReadsRow k t answer (Names next) = ⊥
 ReadsRow k t answer (Row a b c d e next) = RowTo k t answer a b c d e next
 ReadsRow k t answer End = ⊥
 ReadsRow k t answer (Refused r) = answer ≡ refusal r
+
+-- the refusal of a refused line, `due` for a line of another kind
+abbrev pub refusalOf : Line → Refusal → Refusal
+refusalOf (Names next) due = due
+refusalOf (Row a b c d e next) due = due
+refusalOf End due = due
+refusalOf (Refused r) due = r
 
 -- ---- what the line reader found
 
@@ -98,38 +103,37 @@ five-values (x ∷ y ∷ z ∷ w ∷ []) a b c d e l p q r s t = absurd (omega a
 five-values (x ∷ y ∷ z ∷ w ∷ u ∷ []) a b c d e l p q r s t = cc
 five-values (x ∷ y ∷ z ∷ w ∷ u ∷ o ∷ v) a b c d e l p q r s t = absurd (omega arith)
 
+-- a row of k + 1 values was read; the first of its checks that fails decides
+pub record ToChecks (k : ℕ) (t : List ℕ) (checks : List Check) (answer : Answer RowRest) (a b c d e next : ℕ) : Type 0 where
+  pub is : answer ≡ checked checks (gives (rowRest (take (suc k) (a ∷ b ∷ c ∷ d ∷ e ∷ [])) (drop next t)))
+  pub inside : next ≤ length t
+
+module _ {k : ℕ} {t : List ℕ} {answer : Answer RowRest} {a b c d e next : ℕ} where
+  module _ {holds : Bool} {n : ℕ} {carries : List ℕ} {checks : List Check} (h : ToChecks k t (must holds n carries ∷ checks) answer a b c d e next) where
+    pub check-passed : holds ≡ true → ToChecks k t checks answer a b c d e next
+    check-passed is = record { is = rw is at (h .is); inside = h .inside }
+
+    pub check-fails : holds ≡ false → answer ≡ refuses n carries
+    check-fails is = rw is at (h .is)
+
+  pub all-passed : ToChecks k t [] answer a b c d e next → RowTo k t answer a b c d e next
+  all-passed h = record { is = h .is; inside = h .inside }
+
 module _ (t : List ℕ) (line : ℕ) (checks : List ℕ → List Check) (s : List ℕ) where
   to-checks : (next k : ℕ) (v r : List ℕ) → rowFound line (row k s) ≡ aRow v (drop next t) → v ≡ r → readRow k line checks s ≡ checked (checks r) (gives (rowRest r (drop next t)))
   to-checks next k v r f same =
       ap (λ (p : Parsed (List ℕ)). orRefuse 2 line p λ r q. checked (checks r) (gives (rowRest r q))) (row-got line (row k s) v (drop next t) f)
       ∙ ap (λ (v : List ℕ). checked (checks v) (gives (rowRest v (drop next t)))) same
 
-  pub three-checks : {a b c d e next : ℕ} → RowAt t (rowFound line (row 2 s)) a b c d e next
-      → readRow 2 line checks s ≡ checked (checks (a ∷ b ∷ c ∷ [])) (gives (rowRest (a ∷ b ∷ c ∷ []) (drop next t)))
+  pub three-checks : {a b c d e next : ℕ} → RowAt t (rowFound line (row 2 s)) a b c d e next → ToChecks 2 t (checks (a ∷ b ∷ c ∷ [])) (readRow 2 line checks s) a b c d e next
   three-checks {a} {b} {c} {d} {e} {next} h =
-      to-checks next 2 (h .values) (a ∷ b ∷ c ∷ []) (h .is)
-      (three-values (h .values) a b c (row-read 2 s (h .values) (drop next t) (row-got line (row 2 s) (h .values) (drop next t) (h .is)) .count) (h .first) (h .second) (h .third))
+      let values = three-values (h .values) a b c (row-read 2 s (h .values) (drop next t) (row-got line (row 2 s) (h .values) (drop next t) (h .is)) .count) (h .first) (h .second) (h .third) in
+      record { is = to-checks next 2 (h .values) (a ∷ b ∷ c ∷ []) (h .is) values; inside = h .inside }
 
-  pub five-checks : {a b c d e next : ℕ} → RowAt t (rowFound line (row 4 s)) a b c d e next
-      → readRow 4 line checks s ≡ checked (checks (a ∷ b ∷ c ∷ d ∷ e ∷ [])) (gives (rowRest (a ∷ b ∷ c ∷ d ∷ e ∷ []) (drop next t)))
+  pub five-checks : {a b c d e next : ℕ} → RowAt t (rowFound line (row 4 s)) a b c d e next → ToChecks 4 t (checks (a ∷ b ∷ c ∷ d ∷ e ∷ [])) (readRow 4 line checks s) a b c d e next
   five-checks {a} {b} {c} {d} {e} {next} h =
-      to-checks next 4 (h .values) (a ∷ b ∷ c ∷ d ∷ e ∷ []) (h .is)
-      (five-values (h .values) a b c d e (row-read 4 s (h .values) (drop next t) (row-got line (row 4 s) (h .values) (drop next t) (h .is)) .count) (h .first) (h .second) (h .third) (h .fourth) (h .fifth))
-
--- ---- a row judged: every check holds, or the refusal of the first that fails
-
-abbrev pub Judges : List Check → Verdict → Type 0
-Judges checks Fine = AllHold checks
-Judges checks (Broken r) = (answer : Answer RowRest) → checked checks answer ≡ refusal r
-
--- the verdict on a row that was read, beside the row
-module _ (checks : List Check) {k : ℕ} {t : List ℕ} {answer : Answer RowRest} {a b c d e next : ℕ} where
-  pub row-fine : answer ≡ checked checks (gives (rowRest (take (suc k) (a ∷ b ∷ c ∷ d ∷ e ∷ [])) (drop next t))) → next ≤ length t → AllHold checks
-      → RowTo k t answer a b c d e next
-  row-fine read inside holds = record { is = read ∙ checked-holds checks _ holds; inside = inside }
-
-pub row-broken : (checks : List Check) {answer : Answer RowRest} (x : Answer RowRest) (r : Refusal) → answer ≡ checked checks x → Judges checks (Broken r) → answer ≡ refusal r
-row-broken checks x r read h = read ∙ h x
+      let values = five-values (h .values) a b c d e (row-read 4 s (h .values) (drop next t) (row-got line (row 4 s) (h .values) (drop next t) (h .is)) .count) (h .first) (h .second) (h .third) (h .fourth) (h .fifth) in
+      record { is = to-checks next 4 (h .values) (a ∷ b ∷ c ∷ d ∷ e ∷ []) (h .is) values; inside = h .inside }
 
 -- ---- positions among the first n of the numbers
 

@@ -20,8 +20,6 @@ use Rattle.dayread.specs.Steps.{rowRest, RowTo}
 use Rattle.dayread.specs.Sections.{TrainsRead, MovesRead}
 use Rattle.dayread.specs.declared.Outcome.{Outcome}
 use Rattle.dayread.specs.declared.Outcome.the-variants.{Accepted, Refused}
-use Rattle.dayread.specs.declared.Step.{Step}
-use Rattle.dayread.specs.declared.Step.the-variants.{Next, Refused as Stopped}
 
 -- ---- what the reading call answers
 
@@ -33,10 +31,9 @@ answer (Refused x) y = refusal x
 abbrev pub Reads : Limits → List ℕ → Outcome → Yard → Type 0
 Reads l t outcome y = (answer outcome y ≡ readDay l t) × (y ≡ dayOrZero l (readDay l t))
 
--- a step that stopped, as a reading
-abbrev pub Ends : Limits → Step → Outcome → Yard → Type 0
-Ends l (Next p) outcome y = Unit
-Ends l (Stopped x) outcome y = (outcome ≡ Refused x) × (y ≡ zeroDay l)
+-- the reading of a text that is refused
+abbrev pub Refuses : Limits → Refusal → Outcome → Yard → Type 0
+Refuses l x outcome y = (outcome ≡ Refused x) × (y ≡ zeroDay l)
 
 -- ---- the first section
 
@@ -100,7 +97,7 @@ module _ (l : Limits) (t : List ℕ) where
 
 -- ---- the reading
 
-pub reads-refused : (l : Limits) (t : List ℕ) (x : Refusal) {outcome : Outcome} {y : Yard} → readDay l t ≡ refusal x → (outcome ≡ Refused x) × (y ≡ zeroDay l) → Reads l t outcome y
+pub reads-refused : (l : Limits) (t : List ℕ) (x : Refusal) {outcome : Outcome} {y : Yard} → readDay l t ≡ refusal x → Refuses l x outcome y → Reads l t outcome y
 reads-refused l t x {outcome} {y} e f = (rw (f .0, e), rw e (f .1))
 
 pub reads-day : (l : Limits) (t : List ℕ) (y : Yard) → readDay l t ≡ gives y → Reads l t Accepted y

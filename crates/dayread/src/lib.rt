@@ -9,70 +9,17 @@ ghost use Prim.Native.Nat.{_≤_, _<_, _+_, _*_};
 ghost use lib.Dec.{ltb, eqb};
 ghost use lib.ListN.{length, take, drop, set};
 ghost use Rattle.dayfile.specs.Reading.{headChecks, trainChecks, moveChecks, position, readNames, readRow, readTrains, readMoves, headSection, trainSection, moveSection, readDay};
-ghost use Rattle.dayread.specs.Steps.{ReadsRow, ReadsMove, Judges};
-ghost use Rattle.dayread.specs.Sections.{Hands, NamesTo, TrainsTo, MovesTo};
+ghost use Rattle.dayread.specs.Steps.{ReadsRow, ReadsMove, refusalOf};
+ghost use Rattle.dayread.specs.Sections.{NamesTo, TrainsTo, MovesTo};
 ghost use Rattle.model.specs.Cells.{InTable};
 ghost use Rattle.day.specs.Sound.{dayLimits, yard};
 ghost use Rattle.dayfile.specs.Calls.{zeroDay, dayOrZero};
-ghost use Rattle.dayread.specs.Whole.{answer, Ends};
+ghost use Rattle.dayread.specs.Whole.{answer, Refuses};
 use day::Day;
 use day::Limits;
 use day::Refusal;
 use lines::Due;
 use lines::Line;
-
-// What the conditions beside a row's form say of it: none is broken, or the refusal of the first that is.
-pub enum Verdict {
-    Fine,
-    Broken(Refusal),
-}
-
-// A row of the first section: its limits.
-fn judge_head(l: Limits, trains: u32, tracks: u32, slots: u32, revisit: u32, split: u32) -> Verdict
-    ensures { λ r. ⌜ Judges (headChecks l (trains ∷ tracks ∷ slots ∷ revisit ∷ split ∷ [])) r ⌝ }
-{
-    if !day::head_within(
-        l,
-        day::wide32(trains),
-        day::wide32(tracks),
-        day::wide32(slots),
-        day::wide32(revisit),
-        day::wide32(split),
-    ) {
-        return Verdict::Broken(Refusal::OutOfLimits(2));
-    }
-    Verdict::Fine
-}
-
-// A train's row: its limits, then 4 and 5. `before` is the train number of the row before, 0 at the first.
-fn judge_train(
-    l: Limits,
-    line: usize,
-    slots: u32,
-    before: u32,
-    number: u32,
-    first: u32,
-    last: u32,
-) -> Verdict
-    ensures { λ r. ⌜ Judges (trainChecks l slots before line (number ∷ first ∷ last ∷ [])) r ⌝ }
-{
-    if !day::train_within(
-        l,
-        day::wide32(slots),
-        day::wide32(number),
-        day::wide32(first),
-        day::wide32(last),
-    ) {
-        return Verdict::Broken(Refusal::OutOfLimits(line));
-    }
-    if number <= before {
-        return Verdict::Broken(Refusal::NumberOrder(line));
-    }
-    if last < first {
-        return Verdict::Broken(Refusal::WindowOrder(line));
-    }
-    Verdict::Fine
-}
 
 // The position, counted from 0, of the train number x among the first n, or n.
 fn position_of(numbers: &[u32], n: usize, x: u32) -> usize
@@ -94,66 +41,44 @@ fn is_pair_after(to0: u32, from0: u32, to: u32, from: u32) -> bool
     (to0 < to) | ((to0 == to) & (from0 < from))
 }
 
-// A move's row: its limits, then 6 and 7. (to0, from0) is the pair of the row before, zeros at the first.
-fn judge_move(
-    l: Limits,
-    line: usize,
-    numbers: &[u32],
-    n: usize,
-    to0: u32,
-    from0: u32,
-    to: u32,
-    from: u32,
-    boxes: u32,
-) -> Verdict
-    requires { ⌜ n ≤ length (now numbers) ⌝ }
-    ensures { λ r. ⌜ Judges (moveChecks l (take n (now (numbers .entry))) (to0 ∷ from0 ∷ 0 ∷ []) line (to ∷ from ∷ boxes ∷ [])) r ⌝ }
-{
-    if !day::move_within(l, day::wide32(to), day::wide32(from), day::wide32(boxes)) {
-        return Verdict::Broken(Refusal::OutOfLimits(line));
-    }
-    let i = position_of(numbers, n, to);
-    let j = position_of(numbers, n, from);
-    if !((i < n) & (j < n) & (to != from)) {
-        return Verdict::Broken(Refusal::UnknownTrain(line));
-    }
-    if !is_pair_after(to0, from0, to, from) {
-        return Verdict::Broken(Refusal::PairOrder(line));
-    }
-    Verdict::Fine
-}
-
-// Reads the row of the first section.
+// Reads the row of the first section: its form, then its limits (3).
 fn read_head_row(l: Limits, text: &[u8], at: usize) -> Line
     ensures { λ r. ⌜ ReadsRow 4 (now (text .entry)) (readRow 4 2 (headChecks l) (drop at (now (text .entry)))) r ⌝ }
 {
     let row = lines::read_line(text, at, 2, Due::RowOfFive, b"");
     let Line::Row {
-        a,
-        b,
-        c,
-        d,
-        e,
+        a: trains,
+        b: tracks,
+        c: slots,
+        d: revisit,
+        e: split,
         next: _,
     } = row
     else {
         return row;
     };
-    let Verdict::Broken(refusal) = judge_head(l, a, b, c, d, e) else {
-        return row;
-    };
-    Line::Refused(refusal)
+    if !day::head_within(
+        l,
+        trains as u64,
+        tracks as u64,
+        slots as u64,
+        revisit as u64,
+        split as u64,
+    ) {
+        return Line::Refused(Refusal::OutOfLimits(2));
+    }
+    row
 }
 
-// Reads a train's row.
+// Reads a train's row: its form, then its limits (3), then 4 and 5. `before` is the train number of the row before, 0 at the first.
 fn read_train(l: Limits, text: &[u8], at: usize, line: usize, slots: u32, before: u32) -> Line
     ensures { λ r. ⌜ ReadsRow 2 (now (text .entry)) (readRow 2 line (trainChecks l slots before line) (drop at (now (text .entry)))) r ⌝ }
 {
     let row = lines::read_line(text, at, line, Due::RowOfThree, b"");
     let Line::Row {
-        a,
-        b,
-        c,
+        a: number,
+        b: first,
+        c: last,
         d: _,
         e: _,
         next: _,
@@ -161,13 +86,20 @@ fn read_train(l: Limits, text: &[u8], at: usize, line: usize, slots: u32, before
     else {
         return row;
     };
-    let Verdict::Broken(refusal) = judge_train(l, line, slots, before, a, b, c) else {
-        return row;
-    };
-    Line::Refused(refusal)
+    if !day::train_within(l, slots as u64, number as u64, first as u64, last as u64) {
+        return Line::Refused(Refusal::OutOfLimits(line));
+    }
+    if number <= before {
+        return Line::Refused(Refusal::NumberOrder(line));
+    }
+    if last < first {
+        return Line::Refused(Refusal::WindowOrder(line));
+    }
+    row
 }
 
-// Reads a move's row, or the end of the text.
+// Reads a move's row: its form, then its limits (3), then 6 and 7; the end of the text is handed up as it is. (to0, from0) is the pair
+// of the row before, zeros at the first.
 fn read_move(
     l: Limits,
     text: &[u8],
@@ -183,9 +115,9 @@ fn read_move(
 {
     let row = lines::read_line(text, at, line, Due::RowOrEnd, b"");
     let Line::Row {
-        a,
-        b,
-        c,
+        a: to,
+        b: from,
+        c: boxes,
         d: _,
         e: _,
         next: _,
@@ -193,10 +125,29 @@ fn read_move(
     else {
         return row;
     };
-    let Verdict::Broken(refusal) = judge_move(l, line, numbers, n, to0, from0, a, b, c) else {
-        return row;
-    };
-    Line::Refused(refusal)
+    if !day::move_within(l, to as u64, from as u64, boxes as u64) {
+        return Line::Refused(Refusal::OutOfLimits(line));
+    }
+    let i = position_of(numbers, n, to);
+    let j = position_of(numbers, n, from);
+    if !((i < n) & (j < n) & (to != from)) {
+        return Line::Refused(Refusal::UnknownTrain(line));
+    }
+    if !is_pair_after(to0, from0, to, from) {
+        return Line::Refused(Refusal::PairOrder(line));
+    }
+    row
+}
+
+// The refusal to hand up where the line due was not found: the one that the line gives. A line of another kind than the one due is
+// never found there; for such a line it would be `due`.
+fn refusal_of(found: Line, due: Refusal) -> Refusal
+    ensures { λ r. ⌜ r ≡ refusalOf found due ⌝ }
+{
+    match found {
+        Line::Refused(refusal) => refusal,
+        _ => due,
+    }
 }
 
 // The place after a section, or the refusal.
@@ -205,23 +156,13 @@ pub enum Step {
     Refused(Refusal),
 }
 
-// The step after a line that is not the one due: a refusal stops, any other line goes on at `at`.
-fn refused_or(line: Line, at: usize) -> Step
-    ensures { λ r. ⌜ Hands line at r ⌝ }
-{
-    let Line::Refused(refusal) = line else {
-        return Step::Next(at);
-    };
-    Step::Refused(refusal)
-}
-
 // Reads a names line.
 fn read_names(text: &[u8], at: usize, line: usize, word: &[u8]) -> Step
     ensures { λ r. ⌜ NamesTo (now (text .entry)) (readNames (now (word .entry)) line (drop at (now (text .entry)))) r ⌝ }
 {
     let found = lines::read_line(text, at, line, Due::NamesLine, word);
     let Line::Names { next } = found else {
-        return refused_or(found, at);
+        return Step::Refused(refusal_of(found, Refusal::NamesLine(line)));
     };
     Step::Next(next)
 }
@@ -251,7 +192,8 @@ fn read_train_rows(
     let mut p = at;
     let mut before: u32 = 0;
     for i in 0..n {
-        let row = read_train(l, text, p, 4 + i, slots, before);
+        let line = 4 + i;
+        let row = read_train(l, text, p, line, slots, before);
         let Line::Row {
             a,
             b,
@@ -261,7 +203,7 @@ fn read_train_rows(
             next,
         } = row
         else {
-            return refused_or(row, p);
+            return Step::Refused(refusal_of(row, Refusal::RowForm(line)));
         };
         numbers[i] = a;
         first[i] = narrow(b);
@@ -322,6 +264,9 @@ fn read_move_rows(
     let mut from: u32 = 0;
     loop {
         let row = read_move(l, text, p, line, numbers, n, to, from);
+        if let Line::End = row {
+            return Step::Next(p);
+        }
         let Line::Row {
             a,
             b,
@@ -331,7 +276,7 @@ fn read_move_rows(
             next,
         } = row
         else {
-            return refused_or(row, p);
+            return Step::Refused(refusal_of(row, Refusal::RowForm(line)));
         };
         let i = position_of(numbers, n, a);
         let j = position_of(numbers, n, b);
@@ -368,11 +313,11 @@ fn read_moves(
 fn read_head(l: Limits, text: &[u8]) -> Line
     ensures { λ r. ⌜ ReadsRow 4 (now (text .entry)) (headSection l (now (text .entry))) r ⌝ }
 {
-    let names = lines::read_line(text, 0, 1, Due::NamesLine, &dayfile::HEAD_NAMES);
-    let Line::Names { next } = names else {
-        return names;
-    };
-    read_head_row(l, text, next)
+    let names = read_names(text, 0, 1, &dayfile::HEAD_NAMES);
+    match names {
+        Step::Next(next) => read_head_row(l, text, next),
+        Step::Refused(refusal) => Line::Refused(refusal),
+    }
 }
 
 // Whether a text was accepted, else its refusal 1 to 7.
@@ -403,20 +348,13 @@ fn zero_day() -> Day
     }
 }
 
-// The reading that a refused step ends in.
-fn refused(step: Step) -> Reading
-    ensures { λ r. ⌜ Ends dayLimits step (r .outcome) (yard (r .day)) ⌝ }
+// The reading that ends in a refusal: it stands beside zeros.
+fn refused(refusal: Refusal) -> Reading
+    ensures { λ r. ⌜ Refuses dayLimits refusal (r .outcome) (yard (r .day)) ⌝ }
 {
-    let day = zero_day();
-    let Step::Refused(refusal) = step else {
-        return Reading {
-            outcome: Outcome::Accepted,
-            day,
-        };
-    };
     Reading {
         outcome: Outcome::Refused(refusal),
-        day,
+        day: zero_day(),
     }
 }
 
@@ -435,7 +373,7 @@ pub fn read_day(text: &[u8]) -> Reading
         next,
     } = head
     else {
-        return refused(refused_or(head, 0));
+        return refused(refusal_of(head, Refusal::RowForm(2)));
     };
     let n = a as usize;
     let mut numbers: [u32; 12] = [0; 12];
@@ -443,25 +381,26 @@ pub fn read_day(text: &[u8]) -> Reading
     let mut last: [u8; 12] = [0; 12];
     let mut boxes: [u8; 144] = [0; 144];
     let trains = read_trains(l, text, next, c, n, &mut numbers, &mut first, &mut last);
-    let Step::Next(at) = trains else {
-        return refused(trains);
+    let at = match trains {
+        Step::Next(at) => at,
+        Step::Refused(refusal) => return refused(refusal),
     };
     let moves = read_moves(l, text, at, 4 + n, &numbers, n, &mut boxes, 12);
-    let Step::Next(_) = moves else {
-        return refused(moves);
-    };
-    Reading {
-        outcome: Outcome::Accepted,
-        day: Day {
-            trains: n,
-            tracks: b,
-            slots: narrow(c),
-            revisit: d,
-            split: e,
-            numbers,
-            first,
-            last,
-            boxes,
+    match moves {
+        Step::Next(_) => Reading {
+            outcome: Outcome::Accepted,
+            day: Day {
+                trains: n,
+                tracks: b,
+                slots: narrow(c),
+                revisit: d,
+                split: e,
+                numbers,
+                first,
+                last,
+                boxes,
+            },
         },
+        Step::Refused(refusal) => refused(refusal),
     }
 }

@@ -1,33 +1,53 @@
 -- `dayread::read_day` meets its contract. Each section was read, or its refusal is the reading's, by the laws of specs/Whole.antt.
 -- Assumes nothing.
-use mathlib.Core.Path.{sym, subst}
 use Prim.Native.Nat.{_≤_}
 use lib.ListN.{drop, replicate}
-use mathlib.Core.Path.{sym}
+use mathlib.Core.Path.{sym, subst}
 use native.Mathlib.Omega.{arith}
 use Rattle.day.specs.Sound.{dayLimits}
 use Rattle.dayfile.specs.Reading.{headSection, trainSection}
 use Rattle.dayread.specs.Steps.{RowTo}
 use Rattle.dayread.specs.Sections.{TrainsRead}
 use Rattle.dayread.specs.Whole.{head-limits, head-stops, trains-stop, moves-stop, day-read, reads-refused, reads-day}
-use Rattle.dayread.proofs.Tags.{row-stops}
+use Rattle.dayread.proofs.Tags.{row-refusal}
 use borrow.Author.Needs.{needs}
 use Rattle.dayread.proofs.read_day.Statement.{statement}
 use Rattle.dayread.proofs.read_day.Tie as tie
 
+-- the places passed, each from one after it: the limits known, the start; the first section read; the trains called; the trains read
+abbrev limited : tie.After-known-told → tie.After-day-limits
+limited c = c .before .before .before .before
+
+abbrev start : tie.After-known-told → tie.Start
+start c = limited c .before .before
+
+abbrev past-head : tie.After-read-trains → tie.After-known-told
+past-head c = c .before .before .before .before
+
+abbrev called : tie.After-known-told2 → tie.After-read-trains
+called c = c .before .before .before .before .before .before
+
+abbrev past-trains : tie.After-read-moves → tie.After-known-told2
+past-trains c = c .before .before .before
+
 -- past the first match the first section was read
 head : (c : tie.After-known-told)
-    → let t = c .before .before .before .before .before .before .args .text .now in
+    → let t = start c .args .text .now in
     let r = c .before .head .given .0 in
     RowTo 4 t (headSection dayLimits t) (r .0) (r .1 .0) (r .1 .1 .0) (r .1 .1 .1 .0) (r .1 .1 .1 .1 .0) (r .1 .1 .1 .1 .1 .0)
-head c = rw (c .before .before .before .before .day-limits .ensures) at (rw (c .before .head .given .1) at (c .before .before .before .read-head .ensures))
+head c = rw (limited c .day-limits .ensures) at (rw (c .before .head .given .1) at (c .before .before .before .read-head .ensures))
 
 -- past the second match the trains were read
 trains : (c : tie.After-known-told2)
-    → let t = c .before .before .before .before .before .before .before .before .before .before .before .before .before .before .before .before .args .text .now in
-    let r = c .before .before .before .before .before .before .before .before .before .before .before .head .given .0 in
-    TrainsRead dayLimits (r .1 .1 .0) (r .0) t (trainSection dayLimits (r .1 .1 .0) (r .0) (drop (r .1 .1 .1 .1 .1 .0) t)) (replicate 12 0) (replicate 12 0) (replicate 12 0) (c .before .before .before .before .before .before .read-trains .last .1 .1 .1 .1 .1 .0) (c .before .before .before .before .before .before .read-trains .last .1 .1 .1 .1 .1 .1 .0) (c .before .before .before .before .before .before .read-trains .last .1 .1 .1 .1 .1 .1 .1 .0) (c .before .trains .given .0 .0)
-trains c = rw (c .before .before .before .before .before .before .before .before .before .before .before .before .before .before .day-limits .ensures) at (rw (c .before .trains .given .1) at (c .before .before .before .before .before .before .read-trains .ensures))
+    → let h = past-head (called c) in
+    let t = start h .args .text .now in
+    let r = h .before .head .given .0 in
+    let columns = called c .read-trains .last in
+    TrainsRead dayLimits (r .1 .1 .0) (r .0) t (trainSection dayLimits (r .1 .1 .0) (r .0) (drop (r .1 .1 .1 .1 .1 .0) t)) (replicate 12 0) (replicate 12 0) (replicate 12 0) (columns .1 .1 .1 .1 .1 .0) (columns .1 .1 .1 .1 .1 .1 .0) (columns .1 .1 .1 .1 .1 .1 .1 .0) (c .before .trains .given .0 .0)
+trains c =
+    -- the place is written out, since `rw` looks into its name
+    let q = c .before .before .before .before .before .before in
+    rw (limited (past-head q) .day-limits .ensures) at (rw (c .before .trains .given .1) at (q .read-trains .ensures))
 
 day-limits-requires : tie.Need-day-limits-requires
 day-limits-requires c κs = search needs
@@ -38,17 +58,19 @@ read-head-requires c κs = search needs
 enum-known-head : tie.Need-enum-known-head
 enum-known-head c = search needs
 
-refused-or-requires : tie.Need-refused-or-requires
-refused-or-requires c κs = search needs
+refusal-of-requires : tie.Need-refusal-of-requires
+refusal-of-requires c κs = search needs
 
 refused-requires : tie.Need-refused-requires
 refused-requires c κs = search needs
 
 returns : tie.Need-returns
 returns c =
-    let t = c .before .before .before .before .before .before .args .text .now in
-    let s = row-stops 4 t (headSection dayLimits t) 0 (c .before .before .before .read-head .result) (c .before .refused-or .result) (c .before .before .match .keys2) (rw (c .before .before .before .before .day-limits .ensures) at (c .before .before .before .read-head .ensures)) (c .before .refused-or .ensures) in
-    reads-refused dayLimits t (s .refused) (head-stops dayLimits t (s .refused) (s .is)) (rw (s .step) at (c .refused .ensures))
+    let read = c .before .before .before in
+    let t = read .before .before .before .args .text .now in
+    let x = c .before .refusal-of .result in
+    let is = row-refusal 4 t (headSection dayLimits t) _ x (read .read-head .result) (c .before .before .match .keys2) (rw (read .before .day-limits .ensures) at (read .read-head .ensures)) (c .before .refusal-of .ensures) in
+    reads-refused dayLimits t x (head-stops dayLimits t x is) (c .refused .ensures)
 
 cast-n : tie.Need-cast-n
 cast-n c = search needs
@@ -70,18 +92,20 @@ read-trains-requires c κs =
 enum-known-trains : tie.Need-enum-known-trains
 enum-known-trains c = search needs
 
-enum-told : tie.Need-enum-told
-enum-told c = search needs
+enum-known-trains-2 : tie.Need-enum-known-trains-2
+enum-known-trains-2 c = search needs
 
 refused-requires-2 : tie.Need-refused-requires-2
 refused-requires-2 c κs = search needs
 
 returns-2 : tie.Need-returns-2
 returns-2 c =
-    let t = c .before .before .before .before .before .before .before .before .before .before .before .before .before .before .before .before .args .text .now in
-    let x = c .before .enum-told .given in
-    let f = rw (c .before .before .before .before .before .before .before .before .before .before .before .before .before .before .day-limits .ensures) at (rw (x .1) at (c .before .before .before .before .before .before .read-trains .ensures)) in
-    reads-refused dayLimits t (x .0 .0) (trains-stop dayLimits t (head (c .before .before .before .before .before .before .before .before .before .before)) (x .0 .0) f) (rw (x .1) at (c .refused2 .ensures))
+    let q = c .before .before .before .before .before .before .before in
+    let h = past-head q in
+    let t = start h .args .text .now in
+    let x = c .before .before .trains2 .given in
+    let is = rw (limited h .day-limits .ensures) at (rw (x .1) at (q .read-trains .ensures)) in
+    reads-refused dayLimits t (x .0 .0) (trains-stop dayLimits t (head h) (x .0 .0) is) (c .refused2 .ensures)
 
 add-read-moves : tie.Need-add-read-moves
 add-read-moves c = search needs
@@ -94,34 +118,41 @@ slice-aggregate-read-moves-2 c = search needs
 
 read-moves-requires : tie.Need-read-moves-requires
 read-moves-requires c κs =
-    let w = head-limits dayLimits _ _ (head (c .before .before .before .before .before .before .before .before .before .before .before .before)) in
-    (omega (arith, w .trains), (subst (λ k. c .before .before .before .before .before .before .before .before .before .before .before .before .before .head .given .0 .0 ≤ k) (sym (c .before .before .before .before .before .before .before .before .read-trains .kept .1 .1 .1 .1 .1 .0)) (w .trains), (w .trains, omega arith)))
+    let q = called (c .before .before) in
+    let h = past-head q in
+    let w = head-limits dayLimits _ _ (head h) in
+    (omega (arith, w .trains), (subst (λ k. h .before .head .given .0 .0 ≤ k) (sym (q .read-trains .kept .1 .1 .1 .1 .1 .0)) (w .trains), (w .trains, omega arith)))
 
-enum-told-2 : tie.Need-enum-told-2
-enum-told-2 c = search needs
+enum-told : tie.Need-enum-told
+enum-told c = search needs
 
-enum-told-3 : tie.Need-enum-told-3
-enum-told-3 c = search needs
+narrow-requires : tie.Need-narrow-requires
+narrow-requires c κs = let w = head-limits dayLimits _ _ (head (past-head (called (past-trains (c .before .before .before))))) in omega (arith, w .slots)
+
+enum-known-moves : tie.Need-enum-known-moves
+enum-known-moves c = search needs
 
 refused-requires-3 : tie.Need-refused-requires-3
 refused-requires-3 c κs = search needs
 
 returns-3 : tie.Need-returns-3
 returns-3 c =
-    let t = c .before .before .before .before .before .before .before .before .before .before .before .before .before .before .before .before .before .before .before .before .before .before .before .args .text .now in
-    let x = c .before .enum-told3 .given in
-    let f = rw (c .before .before .before .before .before .before .before .before .before .before .before .before .before .before .before .before .before .before .before .before .before .day-limits .ensures) at (rw (x .1) at (c .before .before .before .before .read-moves .ensures)) in
-    reads-refused dayLimits t (x .0 .0) (moves-stop dayLimits t (head (c .before .before .before .before .before .before .before .before .before .before .before .before .before .before .before .before .before)) (trains (c .before .before .before .before .before .before .before)) (x .0 .0) f) (rw (x .1) at (c .refused3 .ensures))
-
-narrow-requires : tie.Need-narrow-requires
-narrow-requires c κs = let w = head-limits dayLimits _ _ (head (c .before .before .before .before .before .before .before .before .before .before .before .before .before .before .before .before)) in omega (arith, w .slots)
+    let q = c .before .before .before .before in
+    let g = past-trains q in
+    let h = past-head (called g) in
+    let t = start h .args .text .now in
+    let read = rw (limited h .day-limits .ensures) at (rw (c .before .enum-told .given .1) at (q .read-moves .ensures)) in
+    rw (c .narrow .ensures) (reads-day dayLimits t _ (day-read dayLimits t (head h) (trains g) read))
 
 returns-4 : tie.Need-returns-4
 returns-4 c =
-    let t = c .before .before .before .before .before .before .before .before .before .before .before .before .before .before .before .before .before .before .before .before .before .before .before .args .text .now in
-    let x = c .before .enum-told2 .given in
-    let m = rw (c .before .before .before .before .before .before .before .before .before .before .before .before .before .before .before .before .before .before .before .before .before .day-limits .ensures) at (rw (x .1) at (c .before .before .before .before .read-moves .ensures)) in
-    rw (c .narrow .ensures) (reads-day dayLimits t _ (day-read dayLimits t (head (c .before .before .before .before .before .before .before .before .before .before .before .before .before .before .before .before .before)) (trains (c .before .before .before .before .before .before .before)) m))
+    let q = c .before .before .before .before .before in
+    let g = past-trains q in
+    let h = past-head (called g) in
+    let t = start h .args .text .now in
+    let x = c .before .before .moves .given in
+    let is = rw (limited h .day-limits .ensures) at (rw (x .1) at (q .read-moves .ensures)) in
+    reads-refused dayLimits t (x .0 .0) (moves-stop dayLimits t (head h) (trains g) (x .0 .0) is) (c .refused3 .ensures)
 
 pub read-day-spec : {M : Type 1} → statement M
 read-day-spec =
@@ -130,7 +161,7 @@ read-day-spec =
     day-limits-requires
     read-head-requires
     enum-known-head
-    refused-or-requires
+    refusal-of-requires
     refused-requires
     returns
     cast-n
@@ -139,16 +170,16 @@ read-day-spec =
     slice-aggregate-read-trains-3
     read-trains-requires
     enum-known-trains
-    enum-told
+    enum-known-trains-2
     refused-requires-2
     returns-2
     add-read-moves
     slice-aggregate-read-moves
     slice-aggregate-read-moves-2
     read-moves-requires
-    enum-told-2
-    enum-told-3
+    enum-told
+    narrow-requires
+    enum-known-moves
     refused-requires-3
     returns-3
-    narrow-requires
     returns-4)

@@ -3,7 +3,7 @@
 use lib.ListN.{drop}
 use Rattle.lines.specs.Lines.{names}
 use Rattle.dayread.specs.Steps.{names-got}
-use Rattle.dayread.proofs.Tags.{names-stop}
+use Rattle.dayread.proofs.Tags.{names-refusal}
 use borrow.Author.Needs.{needs}
 use Rattle.dayread.proofs.read_names.Statement.{statement}
 use Rattle.dayread.proofs.read_names.Tie as tie
@@ -14,15 +14,24 @@ read-line-requires c κs = search needs
 enum-known-found : tie.Need-enum-known-found
 enum-known-found c = search needs
 
-refused-or-requires : tie.Need-refused-or-requires
-refused-or-requires c κs = search needs
+refusal-of-requires : tie.Need-refusal-of-requires
+refusal-of-requires c κs = search needs
 
 returns : tie.Need-returns
-returns c = names-stop _ _ _ _ _ (c .before .before .read-line .result) _ (c .before .match .keys2) (c .before .before .read-line .ensures) (c .refused-or .ensures)
+returns c = names-refusal _ _ _ _ _ _ (c .before .before .read-line .result) (c .before .match .keys2) (c .before .before .read-line .ensures) (c .refusal-of .ensures)
 
 returns-2 : tie.Need-returns-2
-returns-2 c = let f = rw (c .before .found .given .1) at (c .before .before .before .read-line .ensures) in (names-got _ (names (c .before .before .before .before .before .before .args .word .now) (drop (c .before .before .before .before .before .before .args .at) (c .before .before .before .before .before .before .args .text .now))) _ (f .0), f .1)
+returns-2 c =
+    let a = c .before .before .before .before .before .before .args in
+    let f = rw (c .before .found .given .1) at (c .before .before .before .read-line .ensures) in
+    (names-got _ (names (a .word .now) (drop (a .at) (a .text .now))) _ (f .0), f .1)
 
 pub read-names-spec : {M : Type 1} → statement M
 read-names-spec =
-    tie.close (tie.spec read-line-requires enum-known-found refused-or-requires returns returns-2)
+    tie.close
+    (tie.spec
+    read-line-requires
+    enum-known-found
+    refusal-of-requires
+    returns
+    returns-2)

@@ -8,7 +8,7 @@ use mathlib.Core.Path.{_≡_, _∙_}
 use lib.ListN.{length, drop, length-set}
 use borrow.Author.Needs.{needs}
 use Rattle.dayread.specs.Sections.{TrainsSoFar, trains-start, train-window, trains-refused, trains-next, trains-end}
-use Rattle.dayread.proofs.Tags.{row-stops}
+use Rattle.dayread.proofs.Tags.{row-refusal}
 use Rattle.dayread.proofs.read_train_rows.Statement.{statement}
 use Rattle.dayread.proofs.read_train_rows.Tie as tie
 
@@ -18,10 +18,20 @@ Inv-loop l text at slots n numbers₀ first₀ last₀ p₀ before₀ i₀ numbe
 abbrev μ-loop : tie.MeasureT-loop
 μ-loop l text at slots n numbers₀ first₀ last₀ p₀ before₀ i₀ numbers first last p before i = n - i
 
+-- where the turn of the loop and the function begin, from where a row was read; and that from where it was stored
+abbrev turn : tie.After-known-told Inv-loop μ-loop → tie.At-loop Inv-loop μ-loop
+turn c = c .before .before .before .before .before
+
+abbrev start : tie.After-known-told Inv-loop μ-loop → tie.Start Inv-loop μ-loop
+start c = turn c .before .before .before .before .before
+
+abbrev row : tie.After-narrow2 Inv-loop μ-loop → tie.After-known-told Inv-loop μ-loop
+row c = c .before .before
+
 -- past the match a train's row was read
 said : (c : tie.After-known-told Inv-loop μ-loop)
-    → let a = c .before .before .before .before .before .before .before .before .before .before .args in
-    let v = c .before .before .before .before .before .loop in
+    → let a = start c .args in
+    let v = turn c .loop in
     let r = c .before .row .given .0 in
     RowTo 2 (a .text .now) (readRow 2 (4 + v .i) (trainChecks (a .l) (a .slots) (v .before) (4 + v .i)) (drop (v .p) (a .text .now))) (r .0) (r .1 .0) (r .1 .1 .0) (r .1 .1 .1 .0) (r .1 .1 .1 .1 .0) (r .1 .1 .1 .1 .1 .0)
 said c = rw (c .before .row .given .1) at (c .before .before .before .read-train .ensures)
@@ -29,8 +39,8 @@ said c = rw (c .before .row .given .1) at (c .before .before .before .read-train
 loop-holds : tie.Need-loop-holds Inv-loop μ-loop
 loop-holds c = (trains-start _ _ _ _ _ _ _ _ (c .before .before .before .before .pre .0), search needs)
 
-add-read-train : tie.Need-add-read-train Inv-loop μ-loop
-add-read-train c = search needs
+add-line : tie.Need-add-line Inv-loop μ-loop
+add-line c = search needs
 
 read-train-requires : tie.Need-read-train-requires Inv-loop μ-loop
 read-train-requires c κs = search needs
@@ -38,8 +48,8 @@ read-train-requires c κs = search needs
 enum-known-row : tie.Need-enum-known-row Inv-loop μ-loop
 enum-known-row c = search needs
 
-refused-or-requires : tie.Need-refused-or-requires Inv-loop μ-loop
-refused-or-requires c κs = search needs
+refusal-of-requires : tie.Need-refusal-of-requires Inv-loop μ-loop
+refusal-of-requires c κs = search needs
 
 same-length : tie.Need-same-length Inv-loop μ-loop
 same-length c = search needs
@@ -51,7 +61,9 @@ same-length-3 : tie.Need-same-length-3 Inv-loop μ-loop
 same-length-3 c = search needs
 
 returns : tie.Need-returns Inv-loop μ-loop
-returns c = let s = row-stops _ _ _ _ (c .before .before .read-train .result) _ (c .before .match .keys2) (c .before .before .read-train .ensures) (c .refused-or .ensures) in rw (s .step) (trains-refused _ _ _ _ (c .before .before .before .before .loop .inv .0) (c .before .before .before .loop-test .taken) (s .refused) (s .is))
+returns c =
+    trains-refused _ _ _ _ (c .before .before .before .before .loop .inv .0) (c .before .before .before .loop-test .taken) (c .refusal-of .result)
+    (row-refusal _ _ _ _ _ (c .before .before .read-train .result) (c .before .match .keys2) (c .before .before .read-train .ensures) (c .refusal-of .ensures))
 
 mul-numbers : tie.Need-mul-numbers Inv-loop μ-loop
 mul-numbers c = search needs
@@ -60,13 +72,13 @@ slice-write-numbers : tie.Need-slice-write-numbers Inv-loop μ-loop
 slice-write-numbers c = search needs
 
 narrow-requires : tie.Need-narrow-requires Inv-loop μ-loop
-narrow-requires c κs = omega (arith, train-window _ _ _ _ _ _ (said c) .0, c .before .before .before .before .before .before .before .before .before .before .pre .1 .0)
+narrow-requires c κs = omega (arith, train-window _ _ _ _ _ _ (said c) .0, start c .pre .1 .0)
 
 slice-write-first : tie.Need-slice-write-first Inv-loop μ-loop
 slice-write-first c = search needs
 
 narrow-requires-2 : tie.Need-narrow-requires-2 Inv-loop μ-loop
-narrow-requires-2 c κs = omega (arith, train-window _ _ _ _ _ _ (said (c .before)) .1, c .before .before .before .before .before .before .before .before .before .before .before .pre .1 .0)
+narrow-requires-2 c κs = omega (arith, train-window _ _ _ _ _ _ (said (c .before)) .1, start (c .before) .pre .1 .0)
 
 slice-write-last : tie.Need-slice-write-last Inv-loop μ-loop
 slice-write-last c = search needs
@@ -78,7 +90,11 @@ loop-less : tie.Need-loop-less Inv-loop μ-loop
 loop-less c = search needs
 
 loop-again : tie.Need-loop-again Inv-loop μ-loop
-loop-again c = (rw (c .before .narrow .ensures, c .narrow2 .ensures) (trains-next _ _ _ _ (c .before .before .before .before .before .before .before .loop .inv .0) (c .before .before .before .before .before .before .loop-test .taken) (said (c .before .before)) (search needs) (search needs) (search needs)), (search needs, (length-set (c .before .before .before .before .before .before .before .loop .numbers) (c .before .before .before .before .before .before .before .loop .i) (c .before .before .before .row .given .0 .0) ∙ c .before .before .before .before .before .before .before .loop .inv .1 .1 .0, (length-set (c .before .before .before .before .before .before .before .loop .first) (c .before .before .before .before .before .before .before .loop .i) (c .before .narrow .result) ∙ c .before .before .before .before .before .before .before .loop .inv .1 .1 .1 .0, length-set (c .before .before .before .before .before .before .before .loop .last) (c .before .before .before .before .before .before .before .loop .i) (c .narrow2 .result) ∙ c .before .before .before .before .before .before .before .loop .inv .1 .1 .1 .1))))
+loop-again c =
+    let v = turn (row c) .loop in
+    let more = row c .before .before .before .before .loop-test .taken in
+    let sizes = v .inv .1 .1 in
+    (rw (c .before .narrow .ensures, c .narrow2 .ensures) (trains-next _ _ _ _ (v .inv .0) more (said (row c)) (search needs) (search needs) (search needs)), (search needs, (length-set (v .numbers) (v .i) (row c .before .row .given .0 .0) ∙ sizes .0, (length-set (v .first) (v .i) (c .before .narrow .result) ∙ sizes .1 .0, length-set (v .last) (v .i) (c .narrow2 .result) ∙ sizes .1 .1))))
 
 same-length-4 : tie.Need-same-length-4 Inv-loop μ-loop
 same-length-4 c = search needs
@@ -99,10 +115,10 @@ read-train-rows-spec =
     Inv-loop
     μ-loop
     loop-holds
-    add-read-train
+    add-line
     read-train-requires
     enum-known-row
-    refused-or-requires
+    refusal-of-requires
     same-length
     same-length-2
     same-length-3
