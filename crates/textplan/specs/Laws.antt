@@ -1,42 +1,29 @@
 -- How planning the day of a text comes to what it leaves: without a day, and from what planning leaves of the day.
 -- Assumes nothing.
-use mathlib.Core.Path.{_≡_, refl, sym, ap, _∙_}
+use mathlib.Core.Path.{_≡_, ap, _∙_}
 use mathlib.Core.Bool.{true, false}
-use mathlib.Core.List.{List, [], _∷_}
+use mathlib.Core.List.{List}
 use Prim.Native.Nat.{ℕ}
 use lib.Dec.{leb}
 use lib.ListN.{length}
 use Rattle.model.specs.Model.{Yard, Outcome}
-use Rattle.day.specs.Answer.{Answer, gives, refuses, refusal, code}
+use Rattle.day.specs.Answer.{Answer, gives, refusal, code}
 use Rattle.day.specs.declared.Limits.{Limits}
 use Rattle.day.specs.declared.Refusal.{Refusal}
 use Rattle.dayfile.specs.Reading.{readDay}
-use Rattle.planning.specs.Planning.{costWords, choiceWords, planned, begins, rowAfter, openWords, Stays}
+use Rattle.planning.specs.Planning.{costWords, choiceWords, Stays}
+use Rattle.planning.specs.Laws.{Left}
 use Rattle.telling.specs.Telling.{numbersAfter}
 use Rattle.telling.specs.Laws.{Told, told-same, told-after, none-told, no-room, with-room}
 use Rattle.textplan.specs.TextPlan.{planFor, rowFor, openFor, slotsIn, slotsFor}
 
--- ---- a day that was read, where there is room for three numbers
+-- ---- a day that was read, where there is room for three numbers: what planning answers and leaves, and that it is told
 
-pub record PlansDay (l : Limits) (y : Yard) (cost₀ choice₀ row₀ numbers₀ : List ℕ) (said : ℕ) (cost choice row numbers : List ℕ) (trains : ℕ) : Type 0 where
-  pub told : Told numbers₀ (planned l y (length cost₀) (length choice₀) (length row₀)) said numbers
-  pub rowIs : row ≡ rowAfter l y (length cost₀) (length choice₀) row₀
-  pub costs : Stays (openWords (begins l y (length cost₀) (length choice₀) (length row₀)) (costWords y)) cost₀ cost
-  pub choices : Stays (openWords (begins l y (length cost₀) (length choice₀) (length row₀)) (choiceWords y)) choice₀ choice
-  pub written : trains ≡ slotsIn y (planned l y (length cost₀) (length choice₀) (length row₀))
-
--- what planning leaves of the day
-pub record Leaves (l : Limits) (y : Yard) (cost₀ choice₀ row₀ cost choice row : List ℕ) : Type 0 where
-  pub rowIs : row ≡ rowAfter l y (length cost₀) (length choice₀) row₀
-  pub costs : Stays (openWords (begins l y (length cost₀) (length choice₀) (length row₀)) (costWords y)) cost₀ cost
-  pub choices : Stays (openWords (begins l y (length cost₀) (length choice₀) (length row₀)) (choiceWords y)) choice₀ choice
-
--- an answer of planning, told: the slots are as many as the day has trains where a plan is given, none with a refusal
-pub plans-told : (l : Limits) (y : Yard) {cost₀ choice₀ row₀ numbers₀ cost choice row numbers : List ℕ} {said trains : ℕ} {a : Answer Outcome}
-    → a ≡ planned l y (length cost₀) (length choice₀) (length row₀) → Leaves l y cost₀ choice₀ row₀ cost choice row → Told numbers₀ a said numbers → trains ≡ slotsIn y a
-    → PlansDay l y cost₀ choice₀ row₀ numbers₀ said cost choice row numbers trains
-plans-told l y {a = a} e left t w =
-    record { told = told-same e t; rowIs = left .rowIs; costs = left .costs; choices = left .choices; written = w ∙ ap (slotsIn y) e }
+pub record PlansDay (l : Limits) (y : Yard) (cost₀ choice₀ row₀ numbers₀ : List ℕ) (returned : ℕ) (cost choice row numbers : List ℕ) (trains : ℕ) : Type 0 where
+  pub said : Answer Outcome
+  pub left : Left l y cost₀ choice₀ row₀ said cost choice row
+  pub told : Told numbers₀ said returned numbers
+  pub written : trains ≡ slotsIn y said
 
 -- ---- the call
 
@@ -62,16 +49,17 @@ module _ (l : Limits) (text cost choice row numbers : List ℕ) where
       let e = with-room l text (length numbers) h f in
       record { says = rw e (t .says); numbersAre = rw e (told-after h t); rowIs = rw e; costs = rw e; choices = rw e; written = rw e }
 
-  pub plans-day : {said : ℕ} {cost′ choice′ row′ numbers′ : List ℕ} {trains : ℕ} (y : Yard) → leb 3 (length numbers) ≡ true → readDay l text ≡ gives y
-      → PlansDay l y cost choice row numbers said cost′ choice′ row′ numbers′ trains → PlansText l text cost choice row numbers said cost′ choice′ row′ numbers′ trains
+  pub plans-day : {returned : ℕ} {cost′ choice′ row′ numbers′ : List ℕ} {trains : ℕ} (y : Yard) → leb 3 (length numbers) ≡ true → readDay l text ≡ gives y
+      → PlansDay l y cost choice row numbers returned cost′ choice′ row′ numbers′ trains → PlansText l text cost choice row numbers returned cost′ choice′ row′ numbers′ trains
   unfolding planFor rowFor openFor slotsFor
   plans-day y h f p =
       let e = with-room l text (length numbers) h f in
+      let t = told-same (p .left .says) (p .told) in
       record {
-        says = rw e (p .told .says);
-        numbersAre = rw e (told-after h (p .told));
-        rowIs = rw e (p .rowIs);
-        costs = rw e (p .costs);
-        choices = rw e (p .choices);
-        written = rw e (p .written);
+        says = rw e (t .says);
+        numbersAre = rw e (told-after h t);
+        rowIs = rw e (p .left .rowIs);
+        costs = rw e (p .left .costs);
+        choices = rw e (p .left .choices);
+        written = rw e (p .written ∙ ap (slotsIn y) (p .left .says));
       }

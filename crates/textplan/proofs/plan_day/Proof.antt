@@ -1,23 +1,26 @@
 -- `textplan::plan_day` meets its contract. By the two cases of planning's answer.
 -- Assumes nothing.
-use mathlib.Core.Path.{refl, sym, ap, _∙_}
+use mathlib.Core.Path.{_≡_, refl, sym, ap, _∙_}
 use Rattle.day.specs.Sound.{dayLimits, yard}
+use Rattle.model.specs.Model.{Outcome}
+use Rattle.day.specs.Answer.{Answer}
 use Rattle.planning.specs.Planning.{answer}
+use Rattle.planning.specs.Laws.{Left}
 use Rattle.telling.specs.Laws.{told-values}
-use Rattle.textplan.specs.Laws.{Leaves, plans-told}
 use borrow.Author.Needs.{needs}
 use Rattle.textplan.proofs.plan_day.Statement.{statement}
 use Rattle.textplan.proofs.plan_day.Tie as tie
 
--- where the function began, and what planning has left of the day
+-- where the function began
 abbrev start : tie.After-plan → tie.Start
 start p = p .before .before .before .before .before .before .before .before
 
-left : (p : tie.After-plan)
-    → let a = start p .args in
+-- a case of planning's answer, with what planning has left
+left : (p : tie.After-plan) {a : Answer Outcome} → answer (p .plan .result) ≡ a
+    → let s = start p .args in
     let l = p .plan .last .1 in
-    Leaves dayLimits (yard (a .day)) (a .cost .now) (a .choice .now) (a .row .now) (l .0) (l .1 .0) (l .1 .1 .0)
-left p = let e = p .plan .ensures .1 in record { rowIs = e .0; costs = e .1 .0; choices = e .1 .1 }
+    Left dayLimits (yard (s .day)) (s .cost .now) (s .choice .now) (s .row .now) a (l .0) (l .1 .0) (l .1 .1 .0)
+left p is = let e = p .plan .ensures in record { says = sym is ∙ e .0; rowIs = e .1 .0; costs = e .1 .1 .0; choices = e .1 .1 .1 }
 
 plan-requires : tie.Need-plan-requires
 plan-requires c κs = search needs
@@ -49,8 +52,7 @@ same-length-4 c = search needs
 returns : tie.Need-returns
 returns c =
     let p = c .before .before .before .before .before .before .before .before .before .before .before .before .before in
-    let q = sym (ap answer (c .before .before .before .before .before .value .given .1)) ∙ p .plan .ensures .0 in
-    plans-told dayLimits (yard (start p .args .day)) q (left p) (told-values refl (c .before .before .store-value .ensures)) refl
+    record { said = _; left = left p (ap answer (c .before .before .before .before .before .value .given .1)); told = told-values refl (c .before .before .store-value .ensures); written = refl }
 
 same-length-5 : tie.Need-same-length-5
 same-length-5 c = search needs
@@ -67,8 +69,7 @@ same-length-8 c = search needs
 returns-2 : tie.Need-returns-2
 returns-2 c =
     let p = c .before .before .before .before .before .before .before .before .before .before .before .before .before in
-    let q = sym (ap answer (c .before .before .before .before .before .refusal .given .1)) ∙ p .plan .ensures .0 in
-    plans-told dayLimits (yard (start p .args .day)) q (left p) (c .before .before .tell .ensures) refl
+    record { said = _; left = left p (ap answer (c .before .before .before .before .before .refusal .given .1)); told = c .before .before .tell .ensures; written = refl }
 
 pub plan-day-spec : {M : Type 1} → statement M
 plan-day-spec =
