@@ -16,8 +16,8 @@ use Rattle.day.specs.declared.Refusal.{Refusal}
 use Rattle.dayfile.specs.Reading.{field1, field2, field3, headChecks, headNames, readNames, readRow, headSection, trainSection, moveSection, readFile, padded, dayOf, readDay}
 use Rattle.dayfile.specs.Files.{row-line-read}
 use Rattle.dayfile.specs.Calls.{zeroDay, dayOrZero}
-use Rattle.dayread.specs.Steps.{rowRest, RowTo}
-use Rattle.dayread.specs.Sections.{TrainsRead, MovesRead}
+use Rattle.day_rows.specs.Steps.{rowRest, RowTo}
+use Rattle.day_sections.specs.Sections.{TrainsRead, MovesRead}
 use Rattle.dayread.specs.declared.Outcome.{Outcome}
 use Rattle.dayread.specs.declared.Outcome.the-variants.{Accepted, Refused}
 

@@ -6,10 +6,10 @@ use mathlib.Core.Path.{sym, subst}
 use native.Mathlib.Omega.{arith}
 use Rattle.day.specs.Sound.{dayLimits}
 use Rattle.dayfile.specs.Reading.{headSection, trainSection}
-use Rattle.dayread.specs.Steps.{RowTo}
-use Rattle.dayread.specs.Sections.{TrainsRead}
+use Rattle.day_rows.specs.Steps.{RowTo}
+use Rattle.day_sections.specs.Sections.{TrainsRead}
 use Rattle.dayread.specs.Whole.{head-limits, head-stops, trains-stop, moves-stop, day-read, reads-refused, reads-day}
-use Rattle.dayread.proofs.Tags.{row-refusal}
+use Rattle.day_rows.proofs.Tags.{row-refusal}
 use borrow.Author.Needs.{needs}
 use Rattle.dayread.proofs.read_day.Statement.{statement}
 use Rattle.dayread.proofs.read_day.Tie as tie
