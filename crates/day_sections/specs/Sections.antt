@@ -127,6 +127,20 @@ abbrev pub TrainsTo : Limits → ℕ → ℕ → List ℕ → Answer Rows → Li
 TrainsTo l slots n t answer numbers₀ first₀ last₀ numbers first last (Next p) = TrainsRead l slots n t answer numbers₀ first₀ last₀ numbers first last p
 TrainsTo l slots n t answer numbers₀ first₀ last₀ numbers first last (Stopped x) = answer ≡ refusal x
 
+-- into columns that held zeros
+pub trains-into : {l : Limits} {slots n : ℕ} {t : List ℕ} {answer : Answer Rows} {numbers₀ first₀ last₀ numbers first last : List ℕ} {next : ℕ} (z : List ℕ)
+    → TrainsRead l slots n t answer numbers₀ first₀ last₀ numbers first last next → numbers₀ ≡ z → first₀ ≡ z → last₀ ≡ z
+    → TrainsRead l slots n t answer z z z numbers first last next
+trains-into {n = n} z g a b c = record {
+  rows = g .rows;
+  is = g .is;
+  count = g .count;
+  inside = g .inside;
+  numbersAre = g .numbersAre ∙ ap (λ (x : List ℕ). map field1 (g .rows) ++ drop n x) a;
+  firstIs = g .firstIs ∙ ap (λ (x : List ℕ). map field2 (g .rows) ++ drop n x) b;
+  lastIs = g .lastIs ∙ ap (λ (x : List ℕ). map field3 (g .rows) ++ drop n x) c;
+}
+
 pub trains-end : {l : Limits} {slots n : ℕ} {t s numbers₀ first₀ last₀ numbers first last : List ℕ} {i p before : ℕ}
     → TrainsSoFar l slots n t s numbers₀ first₀ last₀ numbers first last i p before → i ≡ n
     → TrainsRead l slots n t (readTrains l slots n 0 4 s) numbers₀ first₀ last₀ numbers first last p
@@ -205,6 +219,10 @@ pub record MovesRead (numbers : List ℕ) (width : ℕ) (answer : Answer Rows) (
 abbrev pub MovesTo : List ℕ → ℕ → Answer Rows → List ℕ → List ℕ → Step → Type 0
 MovesTo numbers width answer boxes₀ boxes (Next p) = MovesRead numbers width answer boxes₀ boxes
 MovesTo numbers width answer boxes₀ boxes (Stopped x) = answer ≡ refusal x
+
+pub moves-into : {numbers : List ℕ} {width : ℕ} {answer : Answer Rows} {boxes₀ boxes : List ℕ} (z : List ℕ)
+    → MovesRead numbers width answer boxes₀ boxes → boxes₀ ≡ z → MovesRead numbers width answer z boxes
+moves-into {numbers} {width} z g e = record { rows = g .rows; is = g .is; boxesAre = g .boxesAre ∙ ap (λ (x : List ℕ). stored numbers width x (g .rows)) e }
 
 module _ (l : Limits) (numbers : List ℕ) (width line start : ℕ) (t : List ℕ) where
   pub moves-start : (boxes : List ℕ) → start ≤ length t → MovesSoFar l numbers width line start t boxes boxes start line 0 0

@@ -20,6 +20,9 @@ use Rattle.day_rows.specs.Steps.{rowRest, RowTo}
 use Rattle.day_sections.specs.Sections.{TrainsRead, MovesRead}
 use Rattle.dayread.specs.declared.Outcome.{Outcome}
 use Rattle.dayread.specs.declared.Outcome.the-variants.{Accepted, Refused}
+use Rattle.dayread.specs.declared.Head.{Head}
+use Rattle.dayread.specs.declared.FileRead.{FileRead}
+use Rattle.dayread.specs.declared.FileRead.the-variants.{Accepted as Is, Refused as IsNot}
 
 -- ---- what the reading call answers
 
@@ -31,9 +34,25 @@ answer (Refused x) y = refusal x
 abbrev pub Reads : Limits → List ℕ → Outcome → Yard → Type 0
 Reads l t outcome y = (answer outcome y ≡ readDay l t) × (y ≡ dayOrZero l (readDay l t))
 
--- the reading of a text that is refused
-abbrev pub Refuses : Limits → Refusal → Outcome → Yard → Type 0
-Refuses l x outcome y = (outcome ≡ Refused x) × (y ≡ zeroDay l)
+-- ---- a text read into columns and a table, for any limits
+
+abbrev pub dayFrom : Limits → Head → List ℕ → List ℕ → List ℕ → List ℕ → Yard
+dayFrom l h numbers first last boxes = record {
+  trains = h .trains;
+  tracks = h .tracks;
+  slots = h .slots;
+  revisit = h .revisit;
+  split = h .split;
+  numbers = numbers;
+  first = first;
+  last = last;
+  width = l .trains;
+  boxes = boxes;
+}
+
+abbrev pub FileTo : Limits → List ℕ → List ℕ → List ℕ → List ℕ → List ℕ → FileRead → Type 0
+FileTo l t numbers first last boxes (Is h) = readDay l t ≡ gives (dayFrom l h numbers first last boxes)
+FileTo l t numbers first last boxes (IsNot x) = readDay l t ≡ refusal x
 
 -- ---- the first section
 
@@ -97,8 +116,8 @@ module _ (l : Limits) (t : List ℕ) where
 
 -- ---- the reading
 
-pub reads-refused : (l : Limits) (t : List ℕ) (x : Refusal) {outcome : Outcome} {y : Yard} → readDay l t ≡ refusal x → Refuses l x outcome y → Reads l t outcome y
-reads-refused l t x {outcome} {y} e f = (rw (f .0, e), rw e (f .1))
+pub reads-refused : (l : Limits) (t : List ℕ) (x : Refusal) {y : Yard} → readDay l t ≡ refusal x → y ≡ zeroDay l → Reads l t (Refused x) y
+reads-refused l t x {y} e f = (sym e, rw e f)
 
 pub reads-day : (l : Limits) (t : List ℕ) (y : Yard) → readDay l t ≡ gives y → Reads l t Accepted y
 reads-day l t y e = (sym e, rw e)

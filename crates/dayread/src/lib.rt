@@ -1,14 +1,17 @@
 // Reading a day file (document 01): the day, or the refusal 1 to 7 with its line beside a record of zeros.
 //
-// Proved: for every text `read_day` answers what `readDay` of dayfile's Reading.antt says, beside the day or zeros. Each step takes
-// the good answer apart, else hands the refusal up. Assumes nothing.
+// Proved: for every text `read_day` answers what `readDay` of dayfile's Reading.antt says, beside the day or zeros. It is `read_file` at
+// the limits of a day; `read_file` reads into lent columns, for any limits. Each step takes the good answer apart, else hands the refusal
+// up. Assumes nothing.
 ghost use mathlib.Core.Path.{_≡_};
-ghost use Prim.Native.Nat.{_+_};
+ghost use Prim.Native.Nat.{_≤_, _*_};
+ghost use lib.ListN.{replicate};
 ghost use Rattle.day.specs.Sound.{dayLimits, yard};
 ghost use Rattle.dayfile.specs.Reading.{readDay};
 ghost use Rattle.dayfile.specs.Calls.{zeroDay, dayOrZero};
-ghost use Rattle.dayread.specs.Whole.{answer, Refuses};
+ghost use Rattle.dayread.specs.Whole.{answer, FileTo};
 use day::Day;
+use day::Limits;
 use day::Refusal;
 use day_rows::Step;
 use lines::Line;
@@ -41,21 +44,33 @@ fn zero_day() -> Day
     }
 }
 
-// The reading that ends in a refusal: it stands beside zeros.
-fn refused(refusal: Refusal) -> Reading
-    ensures { λ r. ⌜ Refuses dayLimits refusal (r .outcome) (yard (r .day)) ⌝ }
-{
-    Reading {
-        outcome: Outcome::Refused(refusal),
-        day: zero_day(),
-    }
+// The row of the first section.
+pub struct Head {
+    pub trains: usize,
+    pub tracks: u32,
+    pub slots: u8,
+    pub revisit: u32,
+    pub split: u32,
 }
 
-// Reads a day file.
-pub fn read_day(text: &[u8]) -> Reading
-    ensures { λ r. ⌜ (answer (r .outcome) (yard (r .day)) ≡ readDay dayLimits (now (text .entry))) × (yard (r .day) ≡ dayOrZero dayLimits (readDay dayLimits (now (text .entry)))) ⌝ }
+// The head of an accepted text, or its refusal 1 to 7.
+pub enum FileRead {
+    Accepted(Head),
+    Refused(Refusal),
+}
+
+// Reads a day file of any limits into three columns and a table of boxes, which hold zeros before and are of use after an accepted text.
+pub fn read_file(
+    l: Limits,
+    text: &[u8],
+    numbers: &mut [u32],
+    first: &mut [u8],
+    last: &mut [u8],
+    boxes: &mut [u8],
+) -> FileRead
+    requires { ⌜ (l .trains ≤ 900) × ((now numbers ≡ replicate (l .trains) 0) × ((now first ≡ replicate (l .trains) 0) × ((now last ≡ replicate (l .trains) 0) × (now boxes ≡ replicate (l .trains * l .trains) 0)))) ⌝ }
+    ensures { λ r. ⌜ FileTo l (now (text .entry)) (now (numbers .exit)) (now (first .exit)) (now (last .exit)) (now (boxes .exit)) r ⌝ }
 {
-    let l = day::day_limits();
     let head = day_sections::read_head(l, text);
     let Line::Row {
         a,
@@ -66,34 +81,61 @@ pub fn read_day(text: &[u8]) -> Reading
         next,
     } = head
     else {
-        return refused(day_rows::refusal_of(head, Refusal::RowForm(2)));
+        return FileRead::Refused(day_rows::refusal_of(head, Refusal::RowForm(2)));
     };
     let n = a as usize;
+    let trains = day_sections::read_trains(l, text, next, c, n, numbers, first, last);
+    let at = match trains {
+        Step::Next(at) => at,
+        Step::Refused(refusal) => return FileRead::Refused(refusal),
+    };
+    let moves = day_sections::read_moves(l, text, at, 4 + n, numbers, n, boxes, l.trains);
+    match moves {
+        Step::Next(_) => FileRead::Accepted(Head {
+            trains: n,
+            tracks: b,
+            slots: day_sections::narrow(c),
+            revisit: d,
+            split: e,
+        }),
+        Step::Refused(refusal) => FileRead::Refused(refusal),
+    }
+}
+
+// Reads a day file.
+pub fn read_day(text: &[u8]) -> Reading
+    ensures { λ r. ⌜ (answer (r .outcome) (yard (r .day)) ≡ readDay dayLimits (now (text .entry))) × (yard (r .day) ≡ dayOrZero dayLimits (readDay dayLimits (now (text .entry)))) ⌝ }
+{
     let mut numbers: [u32; 12] = [0; 12];
     let mut first: [u8; 12] = [0; 12];
     let mut last: [u8; 12] = [0; 12];
     let mut boxes: [u8; 144] = [0; 144];
-    let trains = day_sections::read_trains(l, text, next, c, n, &mut numbers, &mut first, &mut last);
-    let at = match trains {
-        Step::Next(at) => at,
-        Step::Refused(refusal) => return refused(refusal),
-    };
-    let moves = day_sections::read_moves(l, text, at, 4 + n, &numbers, n, &mut boxes, 12);
-    match moves {
-        Step::Next(_) => Reading {
+    let read = read_file(
+        day::day_limits(),
+        text,
+        &mut numbers,
+        &mut first,
+        &mut last,
+        &mut boxes,
+    );
+    match read {
+        FileRead::Accepted(head) => Reading {
             outcome: Outcome::Accepted,
             day: Day {
-                trains: n,
-                tracks: b,
-                slots: day_sections::narrow(c),
-                revisit: d,
-                split: e,
+                trains: head.trains,
+                tracks: head.tracks,
+                slots: head.slots,
+                revisit: head.revisit,
+                split: head.split,
                 numbers,
                 first,
                 last,
                 boxes,
             },
         },
-        Step::Refused(refusal) => refused(refusal),
+        FileRead::Refused(refusal) => Reading {
+            outcome: Outcome::Refused(refusal),
+            day: zero_day(),
+        },
     }
 }
