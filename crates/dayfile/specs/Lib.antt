@@ -10,3 +10,4 @@ pub mod Calls
 pub mod Size
 pub mod Wider
 pub mod Refused
+pub mod Columns

@@ -16,11 +16,11 @@ use Rattle.day.specs.declared.Refusal.{Refusal}
 use Rattle.dayfile.specs.Reading.{field1, field2, field3, headChecks, headNames, readNames, readRow, headSection, trainSection, moveSection, readFile, padded, dayOf, readDay}
 use Rattle.dayfile.specs.Files.{row-line-read}
 use Rattle.dayfile.specs.Calls.{zeroDay, dayOrZero}
+use Rattle.dayfile.specs.Columns.{dayFrom}
 use Rattle.day_rows.specs.Steps.{rowRest, RowTo}
 use Rattle.day_sections.specs.Sections.{TrainsRead, MovesRead}
 use Rattle.dayread.specs.declared.Outcome.{Outcome}
 use Rattle.dayread.specs.declared.Outcome.the-variants.{Accepted, Refused}
-use Rattle.dayread.specs.declared.Head.{Head}
 use Rattle.dayread.specs.declared.FileRead.{FileRead}
 use Rattle.dayread.specs.declared.FileRead.the-variants.{Accepted as Is, Refused as IsNot}
 
@@ -36,22 +36,8 @@ Reads l t outcome y = (answer outcome y ≡ readDay l t) × (y ≡ dayOrZero l (
 
 -- ---- a text read into columns and a table, for any limits
 
-abbrev pub dayFrom : Limits → Head → List ℕ → List ℕ → List ℕ → List ℕ → Yard
-dayFrom l h numbers first last boxes = record {
-  trains = h .trains;
-  tracks = h .tracks;
-  slots = h .slots;
-  revisit = h .revisit;
-  split = h .split;
-  numbers = numbers;
-  first = first;
-  last = last;
-  width = l .trains;
-  boxes = boxes;
-}
-
 abbrev pub FileTo : Limits → List ℕ → List ℕ → List ℕ → List ℕ → List ℕ → FileRead → Type 0
-FileTo l t numbers first last boxes (Is h) = readDay l t ≡ gives (dayFrom l h numbers first last boxes)
+FileTo l t numbers first last boxes (Is h) = readDay l t ≡ gives (dayFrom h numbers first last (l .trains) boxes)
 FileTo l t numbers first last boxes (IsNot x) = readDay l t ≡ refusal x
 
 -- ---- the first section

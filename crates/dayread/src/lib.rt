@@ -14,6 +14,7 @@ use day::Day;
 use day::Limits;
 use day::Refusal;
 use day_rows::Step;
+use dayfile::Head;
 use lines::Line;
 
 // Whether a text was accepted, else its refusal 1 to 7.
@@ -42,15 +43,6 @@ fn zero_day() -> Day
         last: [0; 12],
         boxes: [0; 144],
     }
-}
-
-// The row of the first section.
-pub struct Head {
-    pub trains: usize,
-    pub tracks: u32,
-    pub slots: u8,
-    pub revisit: u32,
-    pub split: u32,
 }
 
 // The head of an accepted text, or its refusal 1 to 7.

@@ -1,11 +1,11 @@
--- `daywrite::put_move` meets its contract. By the two cases of the test that there are no boxes.
+-- `day_text::put_move` meets its contract. By the two cases of the test that there are no boxes.
 -- Assumes nothing.
 use mathlib.Core.Path.{refl}
 use native.Mathlib.Omega.{arith}
-use Rattle.daywrite.specs.Laws.{move-none, move-some, wide, receiver-below, supplier-below}
+use Rattle.day_text.specs.Laws.{move-none, move-some, wide, receiver-below, supplier-below}
 use borrow.Author.Needs.{needs}
-use Rattle.daywrite.proofs.put_move.Statement.{statement}
-use Rattle.daywrite.proofs.put_move.Tie as tie
+use Rattle.day_text.proofs.put_move.Statement.{statement}
+use Rattle.day_text.proofs.put_move.Tie as tie
 
 shared-slice-read-if1 : tie.Need-shared-slice-read-if1
 shared-slice-read-if1 c = search needs

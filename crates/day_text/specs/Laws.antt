@@ -15,7 +15,7 @@ use Rattle.decimal.specs.PlaceLaws.{put-text}
 use Rattle.lines.specs.Lines.{rowText, rowsText}
 use Rattle.output.specs.Laws.{rows-listed, rows-joined}
 use Rattle.dayfile.specs.Writing.{fileText, moveRow, moveRows, fileOf, dayText}
-use Rattle.daywrite.specs.Writes.{headText, trainsText, moveText, movesText}
+use Rattle.day_text.specs.Writes.{headText, trainsText, moveText, movesText}
 
 -- ---- the row of a place of the table
 

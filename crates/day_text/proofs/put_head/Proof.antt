@@ -1,4 +1,4 @@
--- `daywrite::put_head` meets its contract. The names line, and the row after it.
+-- `day_text::put_head` meets its contract. The names line, and the row after it.
 -- Assumes nothing.
 use mathlib.Core.List.{[], _∷_}
 use native.Mathlib.Omega.{arith}
@@ -7,8 +7,8 @@ use Rattle.decimal.specs.PlaceLaws.{put-text}
 use Rattle.lines.specs.Lines.{rowText}
 use Rattle.dayfile.specs.Reading.{headNames}
 use borrow.Author.Needs.{needs}
-use Rattle.daywrite.proofs.put_head.Statement.{statement}
-use Rattle.daywrite.proofs.put_head.Tie as tie
+use Rattle.day_text.proofs.put_head.Statement.{statement}
+use Rattle.day_text.proofs.put_head.Tie as tie
 
 slice-aggregate-put-bytes : tie.Need-slice-aggregate-put-bytes
 slice-aggregate-put-bytes c = search needs

@@ -1,0 +1,72 @@
+-- `day_text::put_file` meets its contract. The three sections, one after the other.
+-- Assumes nothing.
+use native.Mathlib.Omega.{arith}
+use Rattle.model.specs.Model.{Yard}
+use Rattle.dayfile.specs.Columns.{dayFrom}
+use Rattle.day_text.specs.Laws.{put-sections, day-length}
+use borrow.Author.Needs.{needs}
+use Rattle.day_text.proofs.put_file.Statement.{statement}
+use Rattle.day_text.proofs.put_file.Tie as tie
+
+-- where the function began, the day that is written, and the place after the first section and after the second
+abbrev start : tie.After-put-head → tie.Start
+start c = c .before .before .before .before .before .before .before .before .before .before .before
+
+abbrev day : tie.Start → Yard
+day s = let a = s .args in dayFrom (a .head) (a .numbers .now) (a .first .now) (a .last .now) (a .width) (a .boxes .now)
+
+abbrev past-head : tie.After-put-trains → tie.After-put-head
+past-head c = c .before .before .before .before
+
+cast-put-head : tie.Need-cast-put-head
+cast-put-head c = search needs
+
+cast-put-head-2 : tie.Need-cast-put-head-2
+cast-put-head-2 c = search needs
+
+cast-put-head-3 : tie.Need-cast-put-head-3
+cast-put-head-3 c = search needs
+
+cast-put-head-4 : tie.Need-cast-put-head-4
+cast-put-head-4 c = search needs
+
+put-head-requires : tie.Need-put-head-requires
+put-head-requires c κs = let s = c .before .before .before .before .before .before .before .before .before .before in omega (arith, day-length (day s), s .pre .1)
+
+put-trains-requires : tie.Need-put-trains-requires
+put-trains-requires c κs =
+    let h = c .before .before .before in
+    let s = start h in
+    let p = s .pre .0 in
+    ((p .0, p .1 .0, p .1 .1 .0), omega (arith, day-length (day s), s .pre .1, h .put-head .kept .0, h .put-head .ensures .next))
+
+put-moves-requires : tie.Need-put-moves-requires
+put-moves-requires c κs =
+    let t = c .before .before .before in
+    let h = past-head t in
+    let s = start h in
+    (s .pre .0 .1 .1 .1, omega (arith, day-length (day s), s .pre .1, h .put-head .kept .0, h .put-head .ensures .next, t .put-trains .kept .0, t .put-trains .ensures .next))
+
+same-length : tie.Need-same-length
+same-length c = search needs
+
+returns : tie.Need-returns
+returns c =
+    let m = c .before .before in
+    let t = m .before .before .before .before in
+    let h = past-head t in
+    put-sections (day (start h)) (h .put-head .ensures) (t .put-trains .ensures) (m .put-moves .ensures)
+
+pub put-file-spec : {M : Type 1} → statement M
+put-file-spec =
+    tie.close
+    (tie.spec
+    cast-put-head
+    cast-put-head-2
+    cast-put-head-3
+    cast-put-head-4
+    put-head-requires
+    put-trains-requires
+    put-moves-requires
+    same-length
+    returns)
