@@ -9,26 +9,34 @@ use lib.ListN.{length, getD}
 use Rattle.fold.specs.Fold.{each}
 use Rattle.model.specs.Model.{Yard, cell}
 use Rattle.day.specs.declared.Day.{Day}
+use Rattle.day.specs.declared.Head.{Head}
 use Rattle.day.specs.declared.Limits.{Limits}
 
 -- ---- the limits of 01, the greatest values of each field; the least is 1, and 0 for a weight. Train numbers: order 2 of 02
 abbrev pub dayLimits : Limits
 dayLimits = record { trains = 12; tracks = 12; slots = 8; weight = 65535; number = 99999; boxes = 255 }
 
--- the record as plain data
-abbrev pub yard : Day → Yard
-yard d = record {
-  trains = d .trains;
-  tracks = d .tracks;
-  slots = d .slots;
-  revisit = d .revisit;
-  split = d .split;
-  numbers = d .numbers;
-  first = d .first;
-  last = d .last;
-  width = 12;
-  boxes = d .boxes;
+-- ---- the record as plain data: its head, three columns, and a table of boxes of some width
+
+abbrev pub headOf : Day → Head
+headOf d = record { trains = d .trains; tracks = d .tracks; slots = d .slots; revisit = d .revisit; split = d .split }
+
+abbrev pub dayFrom : Head → List ℕ → List ℕ → List ℕ → ℕ → List ℕ → Yard
+dayFrom h numbers first last width boxes = record {
+  trains = h .trains;
+  tracks = h .tracks;
+  slots = h .slots;
+  revisit = h .revisit;
+  split = h .split;
+  numbers = numbers;
+  first = first;
+  last = last;
+  width = width;
+  boxes = boxes;
 }
+
+abbrev pub yard : Day → Yard
+yard d = dayFrom (headOf d) (d .numbers) (d .first) (d .last) 12 (d .boxes)
 
 -- ---- the fields of a row and their ranges, 01's table of the day file
 

@@ -9,7 +9,7 @@ ghost use lib.ListN.{length};
 ghost use Rattle.fold.specs.Fold.{each};
 ghost use Rattle.model.specs.Model.{cell};
 ghost use Rattle.model.specs.Cells.{InTable};
-ghost use Rattle.day.specs.Sound.{dayLimits, yard, range, between, within, headRanges, trainRanges, moveRanges, headRow, numberBefore, trainSound, unused, positionSound, pairSound, receiverSound, sound};
+ghost use Rattle.day.specs.Sound.{dayLimits, yard, headOf, dayFrom, range, between, within, headRanges, trainRanges, moveRanges, numberBefore, trainSound, unused, positionSound, pairSound, receiverSound, sound};
 
 // A day. Positions are counted from 0; A(i, j), the boxes that train i receives from train j, stands at i * 12 + j of `boxes`.
 // Unused positions hold 0.
@@ -23,6 +23,15 @@ pub struct Day {
     pub first: [u8; 12],
     pub last: [u8; 12],
     pub boxes: [u8; 144],
+}
+
+// The row of the first section of a day file. With it a day of any size is three columns and a table of boxes.
+pub struct Head {
+    pub trains: usize,
+    pub tracks: u32,
+    pub slots: u8,
+    pub revisit: u32,
+    pub split: u32,
 }
 
 // The greatest value of each field of a day file.
@@ -242,39 +251,55 @@ fn boxes_sound(l: Limits, n: usize, width: usize, boxes: &[u8]) -> bool
     true
 }
 
-// The three parts of a record's test, each over the arrays that it needs.
-fn is_head_sound(day: Day) -> bool
-    ensures { λ r. ⌜ r ≡ within (headRanges dayLimits) (headRow (yard day)) ⌝ }
+fn is_head_sound(l: Limits, head: Head) -> bool
+    ensures { λ r. ⌜ r ≡ within (headRanges l) (head .trains ∷ head .tracks ∷ head .slots ∷ head .revisit ∷ head .split ∷ []) ⌝ }
 {
     head_within(
-        day_limits(),
-        day.trains as u64,
-        day.tracks as u64,
-        day.slots as u64,
-        day.revisit as u64,
-        day.split as u64,
+        l,
+        head.trains as u64,
+        head.tracks as u64,
+        head.slots as u64,
+        head.revisit as u64,
+        head.split as u64,
     )
 }
 
-fn are_positions_sound(day: Day) -> bool
-    ensures { λ r. ⌜ r ≡ each 12 (positionSound dayLimits (day .trains) (day .slots) (day .numbers) (day .first) (day .last)) ⌝ }
+// Whether a day is sound that is given by its head, three columns and a table of boxes, each as long as the limits say.
+pub fn is_file_sound(
+    l: Limits,
+    head: Head,
+    numbers: &[u32],
+    first: &[u8],
+    last: &[u8],
+    boxes: &[u8],
+) -> bool
+    requires { ⌜ (length (now numbers) ≡ l .trains) × ((length (now first) ≡ l .trains) × ((length (now last) ≡ l .trains) × (length (now boxes) ≡ l .trains * l .trains))) ⌝ }
+    ensures { λ r. ⌜ r ≡ sound l (dayFrom head (now (numbers .entry)) (now (first .entry)) (now (last .entry)) (l .trains) (now (boxes .entry))) ⌝ }
 {
-    let numbers = day.numbers;
-    let first = day.first;
-    let last = day.last;
-    positions_sound(day_limits(), day.trains, day.slots, &numbers, &first, &last)
+    is_head_sound(l, head)
+        & positions_sound(l, head.trains, head.slots, numbers, first, last)
+        & boxes_sound(l, head.trains, l.trains, boxes)
 }
 
-fn are_boxes_sound(day: Day) -> bool
-    ensures { λ r. ⌜ r ≡ each 12 (receiverSound dayLimits (day .trains) 12 (day .boxes)) ⌝ }
+pub fn head_of(day: Day) -> Head
+    ensures { λ r. ⌜ r ≡ headOf day ⌝ }
 {
-    let boxes = day.boxes;
-    boxes_sound(day_limits(), day.trains, 12, &boxes)
+    Head {
+        trains: day.trains,
+        tracks: day.tracks,
+        slots: day.slots,
+        revisit: day.revisit,
+        split: day.split,
+    }
 }
 
 // Whether a record is sound: some day file reads to it. For every record, sound or not.
 pub fn is_sound(day: Day) -> bool
     ensures { λ r. ⌜ r ≡ sound dayLimits (yard day) ⌝ }
 {
-    is_head_sound(day) & are_positions_sound(day) & are_boxes_sound(day)
+    let numbers = day.numbers;
+    let first = day.first;
+    let last = day.last;
+    let boxes = day.boxes;
+    is_file_sound(day_limits(), head_of(day), &numbers, &first, &last, &boxes)
 }

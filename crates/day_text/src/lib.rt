@@ -7,9 +7,9 @@ ghost use Prim.Native.Nat.{_+_, _≤_, _<_, _*_};
 ghost use lib.ListN.{length};
 ghost use Rattle.decimal.specs.Place.{Put};
 ghost use Rattle.dayfile.specs.Writing.{dayText};
-ghost use Rattle.dayfile.specs.Columns.{dayFrom};
+ghost use Rattle.day.specs.Sound.{dayFrom};
 ghost use Rattle.day_text.specs.Writes.{headText, trainsText, moveText, movesText};
-use dayfile::Head;
+use day::Head;
 
 // Puts the first section at the front: its names line and its row. Gives the place after it.
 fn put_head(out: &mut [u8], trains: u64, tracks: u64, slots: u64, revisit: u64, split: u64) -> usize

@@ -10,4 +10,3 @@ pub mod Calls
 pub mod Size
 pub mod Wider
 pub mod Refused
-pub mod Columns

@@ -1,17 +1,8 @@
 // The day file of document 01: what a text reads to and what a day is written as, in specs/. The three names lines are here, for the
-// crates that read and write, and the row of the first section.
+// crates that read and write.
 
 pub const HEAD_NAMES: [u8; 34] = *b"trains tracks slots revisit split\n";
 
 pub const TRAIN_NAMES: [u8; 17] = *b"train first last\n";
 
 pub const MOVE_NAMES: [u8; 14] = *b"to from boxes\n";
-
-// The row of the first section. With it a day of any size is three columns and a table of boxes.
-pub struct Head {
-    pub trains: usize,
-    pub tracks: u32,
-    pub slots: u8,
-    pub revisit: u32,
-    pub split: u32,
-}

@@ -9,14 +9,13 @@ use lib.Seq.{take-append-seam}
 use Rattle.model.specs.Model.{Yard}
 use Rattle.day.specs.Answer.{Answer, gives, refusal}
 use Rattle.day.specs.AnswerLaws.{given-then}
-use Rattle.day.specs.Sound.{headRanges}
+use Rattle.day.specs.Sound.{dayFrom, headRanges}
 use Rattle.day.specs.SoundLaws.{within-is}
 use Rattle.day.specs.declared.Limits.{Limits}
 use Rattle.day.specs.declared.Refusal.{Refusal}
 use Rattle.dayfile.specs.Reading.{field1, field2, field3, headChecks, headNames, readNames, readRow, headSection, trainSection, moveSection, readFile, padded, dayOf, readDay}
 use Rattle.dayfile.specs.Files.{row-line-read}
 use Rattle.dayfile.specs.Calls.{zeroDay, dayOrZero}
-use Rattle.dayfile.specs.Columns.{dayFrom}
 use Rattle.day_rows.specs.Steps.{rowRest, RowTo}
 use Rattle.day_sections.specs.Sections.{TrainsRead, MovesRead}
 use Rattle.dayread.specs.declared.Outcome.{Outcome}

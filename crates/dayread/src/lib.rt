@@ -11,10 +11,10 @@ ghost use Rattle.dayfile.specs.Reading.{readDay};
 ghost use Rattle.dayfile.specs.Calls.{zeroDay, dayOrZero};
 ghost use Rattle.dayread.specs.Whole.{answer, FileTo};
 use day::Day;
+use day::Head;
 use day::Limits;
 use day::Refusal;
 use day_rows::Step;
-use dayfile::Head;
 use lines::Line;
 
 // Whether a text was accepted, else its refusal 1 to 7.

@@ -13,7 +13,6 @@ ghost use Rattle.dayfile.specs.Calls.{dayChecks};
 ghost use Rattle.output.specs.Output.{answer, writes, leaves};
 use day::Day;
 use day::Refusal;
-use dayfile::Head;
 use output::Wrote;
 
 // Puts the text of a day at the front, and gives its length.
@@ -25,14 +24,7 @@ fn put_day(day: Day, out: &mut [u8]) -> usize
     let first = day.first;
     let last = day.last;
     let boxes = day.boxes;
-    let head = Head {
-        trains: day.trains,
-        tracks: day.tracks,
-        slots: day.slots,
-        revisit: day.revisit,
-        split: day.split,
-    };
-    day_text::put_file(out, head, &numbers, &first, &last, 12, &boxes)
+    day_text::put_file(out, day::head_of(day), &numbers, &first, &last, 12, &boxes)
 }
 
 // Writes a day. The output is lent: its first bytes become the day file, the others stay; a refusal changes none. So the text is put

@@ -1,32 +1,66 @@
--- `day::is_sound` meets its contract. The shape is the record type's, and each part has its own function.
+-- `day::is_sound` meets its contract. The arrays of a record have the lengths that the limits of a day say.
 -- Assumes nothing.
-use mathlib.Core.Path.{_≡_}
+use mathlib.Core.Path.{_≡_, ap, sym, _∙_}
+use Prim.Native.Nat.{_*_}
 use lib.ListN.{length}
-use Rattle.day.specs.Sound.{shaped, sound}
+use Rattle.day.specs.declared.Limits.{Limits}
 use borrow.Author.Needs.{needs}
 use Rattle.day.proofs.is_sound.Statement.{statement}
 use Rattle.day.proofs.is_sound.Tie as tie
 
-is-head-sound-requires : tie.Need-is-head-sound-requires
-is-head-sound-requires c κs = search needs
+-- the arrays of a record have its lengths
+numbers-all : (s : tie.Start) → length (s .args .day .numbers) ≡ 12
+numbers-all s = search needs
 
-are-positions-sound-requires : tie.Need-are-positions-sound-requires
-are-positions-sound-requires c κs = search needs
+first-all : (s : tie.Start) → length (s .args .day .first) ≡ 12
+first-all s = search needs
 
-are-boxes-sound-requires : tie.Need-are-boxes-sound-requires
-are-boxes-sound-requires c κs = search needs
+last-all : (s : tie.Start) → length (s .args .day .last) ≡ 12
+last-all s = search needs
+
+boxes-all : (s : tie.Start) → length (s .args .day .boxes) ≡ 144
+boxes-all s = search needs
+
+day-limits-requires : tie.Need-day-limits-requires
+day-limits-requires c κs = search needs
+
+head-of-requires : tie.Need-head-of-requires
+head-of-requires c κs = search needs
+
+slice-aggregate-is-file-sound : tie.Need-slice-aggregate-is-file-sound
+slice-aggregate-is-file-sound c = search needs
+
+slice-aggregate-is-file-sound-2 : tie.Need-slice-aggregate-is-file-sound-2
+slice-aggregate-is-file-sound-2 c = search needs
+
+slice-aggregate-is-file-sound-3 : tie.Need-slice-aggregate-is-file-sound-3
+slice-aggregate-is-file-sound-3 c = search needs
+
+slice-aggregate-is-file-sound-4 : tie.Need-slice-aggregate-is-file-sound-4
+slice-aggregate-is-file-sound-4 c = search needs
+
+is-file-sound-requires : tie.Need-is-file-sound-requires
+is-file-sound-requires c κs =
+    let d = c .before .before .before .before .before in
+    let s = d .before .before .before .before .before in
+    let e = sym (ap (λ (l : Limits). l .trains) (d .day-limits .ensures)) in
+    let f = sym (ap (λ (l : Limits). l .trains * l .trains) (d .day-limits .ensures)) in
+    (numbers-all s ∙ e, (first-all s ∙ e, (last-all s ∙ e, boxes-all s ∙ f)))
 
 returns : tie.Need-returns
-unfolding sound shaped
 returns c =
-    let d = c .before .before .before .args .day in
-    let n : length (d .numbers) ≡ 12 = search needs in
-    let f : length (d .first) ≡ 12 = search needs in
-    let l : length (d .last) ≡ 12 = search needs in
-    let t : length (d .boxes) ≡ 144 = search needs in
-    rw (c .before .before .is-head-sound .ensures, c .before .are-positions-sound .ensures, c .are-boxes-sound .ensures, n, f, l, t)
+    let h = c .before .before .before .before .before in
+    rw (h .before .day-limits .ensures, h .head-of .ensures) at (c .is-file-sound .ensures)
 
 pub is-sound-spec : {M : Type 1} → statement M
 is-sound-spec =
     tie.close
-    (tie.spec is-head-sound-requires are-positions-sound-requires are-boxes-sound-requires returns)
+    (tie.spec
+    day-limits-requires
+    head-of-requires
+    slice-aggregate-is-file-sound
+    slice-aggregate-is-file-sound-2
+    slice-aggregate-is-file-sound-3
+    slice-aggregate-is-file-sound-4
+    is-file-sound-requires
+    returns)

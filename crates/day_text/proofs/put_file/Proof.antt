@@ -2,7 +2,7 @@
 -- Assumes nothing.
 use native.Mathlib.Omega.{arith}
 use Rattle.model.specs.Model.{Yard}
-use Rattle.dayfile.specs.Columns.{dayFrom}
+use Rattle.day.specs.Sound.{dayFrom}
 use Rattle.day_text.specs.Laws.{put-sections, day-length}
 use borrow.Author.Needs.{needs}
 use Rattle.day_text.proofs.put_file.Statement.{statement}

@@ -1,0 +1,42 @@
+-- `day::is_file_sound` meets its contract. The shape is what is asked for, and each part has its own function.
+-- Assumes nothing.
+use mathlib.Core.Path.{refl}
+use native.Mathlib.Omega.{arith}
+use Prim.Native.Nat.{_*_}
+use lib.ListN.{length}
+use borrow.Author.Tests.{eq-eqb}
+use Rattle.day.specs.Sound.{shaped, sound}
+use borrow.Author.Needs.{needs}
+use Rattle.day.proofs.is_file_sound.Statement.{statement}
+use Rattle.day.proofs.is_file_sound.Tie as tie
+
+is-head-sound-requires : tie.Need-is-head-sound-requires
+is-head-sound-requires c κs = search needs
+
+positions-sound-requires : tie.Need-positions-sound-requires
+positions-sound-requires c κs = search needs
+
+boxes-sound-requires : tie.Need-boxes-sound-requires
+boxes-sound-requires c κs = search needs
+
+returns : tie.Need-returns
+unfolding sound shaped
+returns c =
+    let s = c .before .before .before .before .before .before .before in
+    let a = s .args in
+    let n = a .l .trains in
+    rw (
+      c .before .before .is-head-sound .ensures,
+      c .before .positions-sound .ensures,
+      c .boxes-sound .ensures,
+      eq-eqb n n refl,
+      eq-eqb (length (a .numbers .now)) n (s .pre .0),
+      eq-eqb (length (a .first .now)) n (s .pre .1 .0),
+      eq-eqb (length (a .last .now)) n (s .pre .1 .1 .0),
+      eq-eqb (length (a .boxes .now)) (n * n) (s .pre .1 .1 .1),
+    )
+
+pub is-file-sound-spec : {M : Type 1} → statement M
+is-file-sound-spec =
+    tie.close
+    (tie.spec is-head-sound-requires positions-sound-requires boxes-sound-requires returns)
