@@ -1,7 +1,7 @@
 -- The checks of valuing against the model: on a sound day a row is valued exactly where it is allowed, and then the answer is the
 -- model's.
 -- Assumes nothing.
-use mathlib.Core.Path.{_≡_, sym, ap, _∙_, subst}
+use mathlib.Core.Path.{_≡_, refl, sym, ap, _∙_, subst}
 use mathlib.Core.Bool.{Bool, true, false, not}
 use mathlib.Core.List.{List, [], _∷_}
 use Prim.Native.Nat.{ℕ, suc, _+_, _≤_, _<_}
@@ -14,12 +14,13 @@ use Rattle.fold.specs.Fold.{each, each-at, each-i, lowest, each-lowest, lowest-
 use Rattle.model.specs.Model.{Yard, slotOf, firstSlot, lastSlot, Outcome, outcome, inSlots, inWindow, roomy, allowed}
 use Rattle.model.specs.Rows
 use Rattle.model.specs.Rows.{windowed, allowed-tests, tests-allowed, both-le, le-both}
-use Rattle.day.specs.Sound.{sound}
+use Rattle.day.specs.Sound.{dayFrom, sound}
 use Rattle.day.specs.SoundLaws.{sound-is}
 use Rattle.day.specs.Answer.{gives, refuses}
 use Rattle.day.specs.AnswerLaws.{checked-holds, checked-gives, Only, only-after}
+use Rattle.day.specs.declared.Head.{Head}
 use Rattle.day.specs.declared.Limits.{Limits}
-use Rattle.valuing.specs.Valuing.{strays, overfull, slotChecks, rowChecks, valued}
+use Rattle.valuing.specs.Valuing.{strays, overfull, slotChecks, valuedRow, rowChecks, valued}
 
 -- the test of slot t + 1, as the code asks it
 pub overfull-is : (n tracks : ℕ) (row : List ℕ) (t : ℕ) {r : Bool} → r ≡ roomy n tracks row (t + 1) → overfull n tracks row t ≡ not r
@@ -33,34 +34,45 @@ module _ (l : Limits) (y : Yard) (row : List ℕ) where
   unfolding valued
   says-unsound s = simp s
 
-  pub says-length : sound l y ≡ true → (length row ≡ y .trains → ⊥) → refuses 11 (0 ∷ []) ≡ valued l y row
-  unfolding valued
-  says-length s h = simp (s, ne-eqb (length row) (y .trains) h)
+  pub says-sound : sound l y ≡ true → valuedRow y row ≡ valued l y row
+  unfolding valued valuedRow
+  says-sound s = simp s
 
-  module _ (s : sound l y ≡ true) (long : length row ≡ y .trains) where
-    pub says-stray : (i : ℕ) → i ≡ lowest (y .trains) (strays (y .first) (y .last) row) → i < y .trains → refuses 12 ((i + 1) ∷ []) ≡ valued l y row
-    unfolding valued strays
+-- train numbers have no part in it
+pub any-numbers : (h : Head) (numbers others first last : List ℕ) (width : ℕ) (boxes row : List ℕ)
+    → valuedRow (dayFrom h numbers first last width boxes) row ≡ valuedRow (dayFrom h others first last width boxes) row
+unfolding valuedRow
+any-numbers h numbers others first last width boxes row = refl
+
+module _ (y : Yard) (row : List ℕ) where
+  pub says-length : (length row ≡ y .trains → ⊥) → refuses 11 (0 ∷ []) ≡ valuedRow y row
+  unfolding valuedRow
+  says-length h = simp (ne-eqb (length row) (y .trains) h)
+
+  module _ (long : length row ≡ y .trains) where
+    pub says-stray : (i : ℕ) → i ≡ lowest (y .trains) (strays (y .first) (y .last) row) → i < y .trains → refuses 12 ((i + 1) ∷ []) ≡ valuedRow y row
+    unfolding valuedRow strays
     says-stray i e h =
         let f : each (y .trains) (inWindow (y .first) (y .last) row) ≡ false =
         lowest-each (y .trains) (inWindow (y .first) (y .last) row) (subst (λ k. k < y .trains) e h) in
-        simp (s, eq-eqb (length row) (y .trains) long, f, ← e, add-one)
+        simp (eq-eqb (length row) (y .trains) long, f, ← e, add-one)
 
     module _ (inside : y .trains ≤ lowest (y .trains) (strays (y .first) (y .last) row)) where
       within : each (y .trains) (inWindow (y .first) (y .last) row) ≡ true
       unfolding strays
       within = each-lowest (y .trains) (inWindow (y .first) (y .last) row) inside
 
-      pub says-overfull : (t : ℕ) → t ≡ lowest (y .slots) (overfull (y .trains) (y .tracks) row) → t < y .slots → refuses 13 ((t + 1) ∷ []) ≡ valued l y row
-      unfolding valued overfull
+      pub says-overfull : (t : ℕ) → t ≡ lowest (y .slots) (overfull (y .trains) (y .tracks) row) → t < y .slots → refuses 13 ((t + 1) ∷ []) ≡ valuedRow y row
+      unfolding valuedRow overfull
       says-overfull t e h =
           let f = lowest-each (y .slots) (λ t. roomy (y .trains) (y .tracks) row (suc t)) (subst (λ k. k < y .slots) e h) in
-          simp (s, eq-eqb (length row) (y .trains) long, within, f, ← e, add-one)
+          simp (eq-eqb (length row) (y .trains) long, within, f, ← e, add-one)
 
-      pub says-values : y .slots ≤ lowest (y .slots) (overfull (y .trains) (y .tracks) row) → gives (outcome y row) ≡ valued l y row
-      unfolding valued overfull
+      pub says-values : y .slots ≤ lowest (y .slots) (overfull (y .trains) (y .tracks) row) → gives (outcome y row) ≡ valuedRow y row
+      unfolding valuedRow overfull
       says-values h =
           let f = each-lowest (y .slots) (λ t. roomy (y .trains) (y .tracks) row (suc t)) h in
-          simp (s, eq-eqb (length row) (y .trains) long, within, f)
+          simp (eq-eqb (length row) (y .trains) long, within, f)
 
 -- ---- a sound day gets 11, 12 or 13 and no other refusal
 

@@ -45,6 +45,10 @@ slotChecks y row =
     ∷ must (each (y .slots) λ t. roomy (y .trains) (y .tracks) row (suc t)) 13 (suc (lowest (y .slots) (overfull (y .trains) (y .tracks) row)) ∷ [])
     ∷ []
 
+-- a row of a sound day
+unfoldable pub valuedRow : Yard → List ℕ → Answer Outcome
+valuedRow y row = checked (slotChecks y row) (gives (outcome y row))
+
 -- 8 the record is sound, then those
 abbrev pub rowChecks : Limits → Yard → List ℕ → List Check
 rowChecks l y row = must (sound l y) 8 (0 ∷ []) ∷ slotChecks y row

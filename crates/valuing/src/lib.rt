@@ -4,14 +4,16 @@
 // Proved: for every record and every row `value_assignment` answers what `valued` of specs/Valuing.antt says. The functions below it
 // take slices, a width and numbers, so that records of other sizes use them too. Assumes nothing.
 ghost use mathlib.Core.Path.{_≡_};
+ghost use mathlib.Core.List.{[]};
 ghost use Prim.Native.Nat.{_≤_, _<_, _*_};
 ghost use lib.ListN.{length};
 ghost use Rattle.fold.specs.Fold.{lowest};
 ghost use Rattle.model.specs.Model.{cell, lateSupplier, revisiting, revisits, splitBoxes, splitsTo, splits, weighed, weighedCounts, inWindow, slotMask, roomy};
-ghost use Rattle.day.specs.Sound.{dayLimits, yard};
+ghost use Rattle.day.specs.Sound.{dayLimits, dayFrom, yard};
 ghost use Rattle.valuing.specs.Given.{Given, GivenPair};
-ghost use Rattle.valuing.specs.Valuing.{strays, overfull, outcomeOf, noOutcome, answer, valued};
+ghost use Rattle.valuing.specs.Valuing.{strays, overfull, outcomeOf, noOutcome, answer, valuedRow, valued};
 use day::Day;
+use day::Head;
 use day::Refusal;
 
 // The two counts of the model, a number type each. Outside this crate a count is opened by its own opener alone; only `weigh` opens both.
@@ -211,28 +213,44 @@ pub fn value_slots(
     }
 }
 
+// Values a row on a sound day that is given by its head, the columns of its windows and its boxes: 11, 12 with the lowest such position,
+// 13 with the lowest such slot, else the three numbers. (Train numbers have no part in it.)
+pub fn value_row(
+    head: Head,
+    first: &[u8],
+    last: &[u8],
+    width: usize,
+    boxes: &[u8],
+    row: &[u8],
+) -> Valued
+    requires { ⌜ (head .trains ≤ 64) × ((head .trains ≤ width) × ((width * width ≤ length (now boxes)) × ((head .trains ≤ length (now first)) × (head .trains ≤ length (now last))))) ⌝ }
+    ensures { λ r. ⌜ answer r ≡ valuedRow (dayFrom head [] (now (first .entry)) (now (last .entry)) width (now (boxes .entry))) (now (row .entry)) ⌝ }
+{
+    let n = head.trains;
+    if row.len() != n {
+        return Valued::Refused(Refusal::RowLength);
+    }
+    let stray = first_stray(first, last, row, n);
+    if stray < n {
+        return Valued::Refused(Refusal::OutsideWindow(stray + 1));
+    }
+    let full = first_overfull(row, n, head.tracks, head.slots);
+    if full < head.slots {
+        return Valued::Refused(Refusal::SlotOverfull(full + 1));
+    }
+    Valued::Values(value_slots(boxes, width, row, n, head.revisit, head.split))
+}
+
 // Values a row of slots, 01's valuing: the three numbers, or refusal 8, 11, 12 with the lowest such position, or 13 with the lowest
 // such slot, checked in this order. For every record and every row; no lent byte changes.
-pub fn value_assignment(day: Day, slots: &[u8]) -> Valued
-    ensures { λ r. ⌜ answer r ≡ valued dayLimits (yard day) (now (slots .entry)) ⌝ }
+pub fn value_assignment(day: Day, row: &[u8]) -> Valued
+    ensures { λ r. ⌜ answer r ≡ valued dayLimits (yard day) (now (row .entry)) ⌝ }
 {
     if !day::is_sound(day) {
         return Valued::Refused(Refusal::Unsound);
     }
-    let n = day.trains;
-    if slots.len() != n {
-        return Valued::Refused(Refusal::RowLength);
-    }
     let first = day.first;
     let last = day.last;
-    let stray = first_stray(&first, &last, slots, n);
-    if stray < n {
-        return Valued::Refused(Refusal::OutsideWindow(stray + 1));
-    }
-    let full = first_overfull(slots, n, day.tracks, day.slots);
-    if full < day.slots {
-        return Valued::Refused(Refusal::SlotOverfull(full + 1));
-    }
     let boxes = day.boxes;
-    Valued::Values(value_slots(&boxes, 12, slots, n, day.revisit, day.split))
+    value_row(day::head_of(day), &first, &last, 12, &boxes, row)
 }

@@ -1,32 +1,39 @@
--- `valuing::value_assignment` meets its contract. Each return is one of the laws `says-..` of specs/Laws.antt, from the checks passed before it.
+-- `valuing::value_assignment` meets its contract: check 8, then `value_row` on the record's head and arrays.
 -- Assumes nothing.
-use Prim.Native.Nat.{_≤_}
 use mathlib.Core.Path.{_≡_, sym, ap, _∙_}
 use mathlib.Core.Bool.{true}
+use mathlib.Core.List.{[]}
 use native.Mathlib.Omega.{arith}
-use borrow.Author.Tests.{not-true, not-false}
 use lib.ListN.{length}
-use Rattle.fold.specs.Fold.{lowest}
+use borrow.Author.Tests.{not-true, not-false}
 use Rattle.fold.specs.Test.{of-true}
-use Rattle.day.specs.Sound.{dayLimits, yard, sound}
+use Rattle.day.specs.Sound.{dayLimits, headOf, yard, sound}
 use Rattle.day.specs.SoundLaws.{Sound, sound-is}
-use Rattle.day.specs.Answer.{gives}
-use Rattle.valuing.specs.Valuing.{strays}
-use Rattle.valuing.specs.Laws.{says-unsound, says-length, says-stray, says-overfull, says-values}
+use Rattle.day.specs.declared.Head.{Head}
+use Rattle.valuing.specs.Laws.{says-unsound, says-sound, any-numbers}
 use borrow.Author.Needs.{needs}
 use Rattle.valuing.proofs.value_assignment.Statement.{statement}
 use Rattle.valuing.proofs.value_assignment.Tie as tie
 
 -- past the first check the day is sound
-sound-day : (c : tie.Else1) → sound dayLimits (yard (c .before .before .before .args .day)) ≡ true
+abbrev start : tie.Else1 → tie.Start
+start c = c .before .before .before
+
+sound-day : (c : tie.Else1) → sound dayLimits (yard (start c .args .day)) ≡ true
 sound-day c = sym (c .before .is-sound .ensures) ∙ not-false _ (c .if1 .left)
 
-limited : (c : tie.Else1) → Sound dayLimits (yard (c .before .before .before .args .day))
+limited : (c : tie.Else1) → Sound dayLimits (yard (start c .args .day))
 limited c = sound-is _ _ (of-true (sound-day c))
 
--- past the third no slot lies outside its window
-inside : (c : tie.Else3) → let d = c .before .before .before .before .before .before .before .before .before .before .args in d .day .trains ≤ lowest (d .day .trains) (strays (d .day .first) (d .day .last) (d .slots .now))
-inside c = omega (arith, c .before .first-stray .ensures)
+-- the arrays of a record have its lengths
+first-all : (s : tie.Start) → length (s .args .day .first) ≡ 12
+first-all s = search needs
+
+last-all : (s : tie.Start) → length (s .args .day .last) ≡ 12
+last-all s = search needs
+
+boxes-all : (s : tie.Start) → length (s .args .day .boxes) ≡ 144
+boxes-all s = search needs
 
 is-sound-requires : tie.Need-is-sound-requires
 is-sound-requires c κs = search needs
@@ -34,46 +41,36 @@ is-sound-requires c κs = search needs
 returns : tie.Need-returns
 returns c = says-unsound _ _ _ (sym (c .before .is-sound .ensures) ∙ not-true _ (c .if1 .taken))
 
+head-of-requires : tie.Need-head-of-requires
+head-of-requires c κs = search needs
+
+slice-aggregate-value-row : tie.Need-slice-aggregate-value-row
+slice-aggregate-value-row c = search needs
+
+slice-aggregate-value-row-2 : tie.Need-slice-aggregate-value-row-2
+slice-aggregate-value-row-2 c = search needs
+
+slice-aggregate-value-row-3 : tie.Need-slice-aggregate-value-row-3
+slice-aggregate-value-row-3 c = search needs
+
+value-row-requires : tie.Need-value-row-requires
+value-row-requires c κs =
+    let h = c .before .before .before in
+    let e = h .before .before .before .before in
+    let s = start e in
+    let same = ap (λ (x : Head). x .trains) (h .head-of .ensures) in
+    let few = limited e .trains .1 in
+    (omega (arith, same, few), (omega (arith, same, few), (omega (arith, boxes-all s), (omega (arith, same, few, first-all s), omega (arith, same, few, last-all s)))))
+
 returns-2 : tie.Need-returns-2
-returns-2 c = says-length _ _ _ (sound-day (c .before)) (c .if2 .taken)
-
-slice-aggregate-first-stray : tie.Need-slice-aggregate-first-stray
-slice-aggregate-first-stray c = search needs
-
-slice-aggregate-first-stray-2 : tie.Need-slice-aggregate-first-stray-2
-slice-aggregate-first-stray-2 c = search needs
-
-first-stray-requires : tie.Need-first-stray-requires
-first-stray-requires c κs = let l = limited (c .before .before .before .before .before) in let f : length (c .before .before .before .before .before .before .before .before .args .day .first) ≡ 12 = search needs in let g : length (c .before .before .before .before .before .before .before .before .args .day .last) ≡ 12 = search needs in omega arith
-
-add-t18 : tie.Need-add-t18
-add-t18 c = search needs
-
-returns-3 : tie.Need-returns-3
-returns-3 c = says-stray _ _ _ (sound-day (c .before .before .before .before .before .before .before)) (c .before .before .before .before .before .before .if2 .left) _ (c .before .first-stray .ensures) (c .if3 .taken)
-
-first-overfull-requires : tie.Need-first-overfull-requires
-first-overfull-requires c κs = let l = limited (c .before .before .before .before .before .before .before) in omega arith
-
-add-t20 : tie.Need-add-t20
-add-t20 c = search needs
-
-returns-4 : tie.Need-returns-4
-returns-4 c = says-overfull _ _ _ (sound-day (c .before .before .before .before .before .before .before .before .before .before)) (c .before .before .before .before .before .before .before .before .before .if2 .left) (inside (c .before .before .before)) _ (c .before .before .first-overfull .ensures) (c .if4 .taken)
-
-slice-aggregate-value-slots : tie.Need-slice-aggregate-value-slots
-slice-aggregate-value-slots c = search needs
-
-value-slots-requires : tie.Need-value-slots-requires
-value-slots-requires c κs =
-    let l = limited (c .before .before .before .before .before .before .before .before .before .before .before .before) in
-    let f : length (c .before .before .before .before .before .before .before .before .before .before .before .before .before .before .before .args .day .boxes) ≡ 144 = search needs in
-    record { few = omega arith; narrow = omega arith; whole = omega arith; long = omega arith }
-
-returns-5 : tie.Need-returns-5
-returns-5 c =
-    ap gives (c .value-slots .ensures)
-    ∙ says-values _ _ _ (sound-day (c .before .before .before .before .before .before .before .before .before .before .before .before .before)) (c .before .before .before .before .before .before .before .before .before .before .before .before .if2 .left) (inside (c .before .before .before .before .before .before)) (omega (arith, c .before .before .before .before .before .first-overfull .ensures))
+returns-2 c =
+    let h = c .before .before .before .before in
+    let e = h .before .before .before .before in
+    let a = start e .args in
+    let d = a .day in
+    rw (h .head-of .ensures) at (c .value-row .ensures)
+    ∙ any-numbers (headOf d) [] (d .numbers) (d .first) (d .last) 12 (d .boxes) (a .row .now)
+    ∙ says-sound dayLimits (yard d) (a .row .now) (sound-day e)
 
 pub value-assignment-spec : {M : Type 1} → statement M
 value-assignment-spec =
@@ -81,15 +78,9 @@ value-assignment-spec =
     (tie.spec
     is-sound-requires
     returns
-    returns-2
-    slice-aggregate-first-stray
-    slice-aggregate-first-stray-2
-    first-stray-requires
-    add-t18
-    returns-3
-    first-overfull-requires
-    add-t20
-    returns-4
-    slice-aggregate-value-slots
-    value-slots-requires
-    returns-5)
+    head-of-requires
+    slice-aggregate-value-row
+    slice-aggregate-value-row-2
+    slice-aggregate-value-row-3
+    value-row-requires
+    returns-2)
