@@ -2,16 +2,19 @@
 -- values, and on 9 two lines with the interval and its trains. This file is what a reader must believe of the program.
 -- Assumes nothing.
 use mathlib.Core.Bool.{cond}
-use mathlib.Core.List.{List, _∷_, _++_}
+use mathlib.Core.List.{List, [], _∷_, _++_}
 use mathlib.Core.Option.{Option, none, some}
 use Prim.Native.Nat.{ℕ}
 use lib.Dec.{eqb}
+use lib.ListN.{length}
 use Rattle.model.specs.Model.{Yard}
 use Rattle.model.specs.BestOf.{bestOf}
 use Rattle.model.specs.Overbooked.{firstOverbooked}
 use Rattle.day.specs.Answer.{Answer, gives, refuses}
 use Rattle.day.specs.declared.Limits.{Limits}
 use Rattle.lines.specs.Lines.{ascii, rowText}
+use Rattle.output.specs.Output.{writes, leaves}
+use Rattle.output.specs.Laws.{Filled, filled}
 use Rattle.dayfile.specs.Reading.{readDay}
 use Rattle.planning.specs.Planning.{carriedBy}
 use Rattle.planfile.specs.PlanText.{planText}
@@ -41,3 +44,14 @@ reply (refuses k carries) = refusalText k carries
 
 unfoldable pub answerText : Limits → List ℕ → List ℕ
 answerText l text = reply (readDay l text)
+
+-- ---- the call: the answer is written into the output, with no check before
+
+abbrev pub answerWrites : Limits → List ℕ → ℕ → Answer ℕ
+answerWrites l text size = writes [] (answerText l text) size
+
+abbrev pub answerLeaves : Limits → List ℕ → List ℕ → List ℕ
+answerLeaves l text out = leaves [] (answerText l text) out
+
+pub answer-filled : (l : Limits) (text out : List ℕ) → Filled (answerText l text) out (answerWrites l text (length out)) (answerLeaves l text out)
+answer-filled l text out = filled [] (answerText l text) out

@@ -4,7 +4,6 @@
 // Proved: for every text and every output `answer_text` answers and leaves what `answerText` of specs/Answering.antt says, and as many
 // bytes of output as the greatest plan file has always suffice. Assumes nothing.
 ghost use mathlib.Core.Path.{_≡_};
-ghost use mathlib.Core.List.{[]};
 ghost use Prim.Native.Nat.{_≤_};
 ghost use lib.Dec.{T};
 ghost use lib.ListN.{length};
@@ -12,9 +11,9 @@ ghost use Rattle.model.specs.BestOf.{bestOf};
 ghost use Rattle.day.specs.Answer.{number, carried};
 ghost use Rattle.day.specs.Sound.{dayLimits, yard, sound};
 ghost use Rattle.decimal.specs.Place.{Put};
-ghost use Rattle.output.specs.Output.{answer, writes, leaves};
+ghost use Rattle.output.specs.Output.{answer};
 ghost use Rattle.planfile.specs.Size.{planBytes};
-ghost use Rattle.answering.specs.Answering.{refusalText, dayReply, answerText};
+ghost use Rattle.answering.specs.Answering.{refusalText, dayReply, answerText, answerWrites, answerLeaves};
 use day::Day;
 use day::Refusal;
 use dayread::Outcome;
@@ -71,8 +70,8 @@ fn put_answer(text: &[u8], out: &mut [u8]) -> usize
 // Answers a text. The output is lent: its first bytes become the answer, the others stay; 10 where it is too short, and then no byte
 // changes.
 pub fn answer_text(text: &[u8], out: &mut [u8]) -> Wrote
-    ensures { λ r. ⌜ answer r ≡ writes [] (answerText dayLimits (now (text .entry))) (length (now (out .entry))) ⌝ }
-    ensures { λ r. ⌜ now (out .exit) ≡ leaves [] (answerText dayLimits (now (text .entry))) (now (out .entry)) ⌝ }
+    ensures { λ r. ⌜ answer r ≡ answerWrites dayLimits (now (text .entry)) (length (now (out .entry))) ⌝ }
+    ensures { λ r. ⌜ now (out .exit) ≡ answerLeaves dayLimits (now (text .entry)) (now (out .entry)) ⌝ }
     ensures { λ r. ⌜ length (answerText dayLimits (now (text .entry))) ≤ planBytes ⌝ }
 {
     let mut reply = [0u8; planfile::PLAN_BYTES];

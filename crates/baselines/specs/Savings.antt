@@ -3,25 +3,30 @@
 --   saves              where three numbers and a saving are given, the procedure's row is allowed, they are the model's, and the saving is
 --                      what the row costs more than the best plan: never below zero;
 --   planned-before     where 14 is given the day has a plan;
---   compared-only      on a sound day, in areas that suffice, a refusal is 9 or 14.
+--   compared-only      on a sound day, in areas that suffice, a refusal is 9 or 14;
+--   refused-zeros      with a refusal all numbers are 0;
+--   areas-after        what the two areas hold: after 8 or 10 all that they held; words beyond 2^n and T × 2^n always.
 -- Assumes nothing.
-use mathlib.Core.Path.{_≡_, refl, sym, ap, _∙_}
+use mathlib.Core.Path.{_≡_, refl, sym, ap, _∙_, subst}
+use mathlib.Core.Bool.{Bool, true, false}
 use mathlib.Core.List.{List}
 use mathlib.Core.Logic.{_⊎_, inl, inr, ⊎-elim}
-use Prim.Native.Nat.{ℕ, _+_, _-_}
+use Prim.Native.Nat.{ℕ, _+_, _-_, _*_, _^_}
 use native.Mathlib.Omega.{arith}
 use lib.Dec.{T, eqb→eq}
 use lib.IntN.{pos, _-ℤ_, pos-+ℤ-pos, +ℤ-negℤ-cancel}
+use lib.ListN.{length, drop}
+use Rattle.fold.specs.Test.{of-true}
 use Rattle.model.specs.Model.{Yard, Outcome, outcome, cost, allowed, Best}
 use Rattle.day.specs.Answer.{Answer, gives, refuses, code, onGiven}
 use Rattle.day.specs.AnswerLaws.{gives-same, checked-gives, given-before, Only, only-given, only-checked, only-wider}
 use Rattle.day.specs.Sound.{sound}
 use Rattle.day.specs.declared.Limits.{Limits}
-use Rattle.planning.specs.Planning.{planned, begins}
+use Rattle.planning.specs.Planning.{costWords, choiceWords, planned, begins, openWords, Stays}
 use Rattle.planning.specs.Answers.{from-best, refuses-only, planned-only}
 use Rattle.procedures.specs.Procedures.{leftOver}
 use Rattle.procedures.specs.Complete.{first-allowed, myopic-allowed}
-use Rattle.baselines.specs.Baselines.{Comparison, rowBy, servedChecks, against, compared}
+use Rattle.baselines.specs.Baselines.{Comparison, comparisonOrZero, rowBy, servedChecks, against, compared, openCosts, openChoices}
 use Rattle.baselines.specs.declared.Procedure.{Procedure}
 use Rattle.baselines.specs.declared.Procedure.the-variants.{FirstCome, Myopic}
 
@@ -81,3 +86,31 @@ module _ (l : Limits) (y : Yard) (costs choices : ℕ) where
       only-given (λ k carries. (k ≡ 9) ⊎ (k ≡ 14)) (planned l y costs choices (y .trains)) _
       (only-wider (λ k carries. k ≡ 9) (λ k carries. (k ≡ 9) ⊎ (k ≡ 14)) (planned l y costs choices (y .trains)) (λ k carries e. inl e) (planned-only l y costs choices (y .trains) begun))
       λ best e. only-checked (λ k carries. (k ≡ 9) ⊎ (k ≡ 14)) (servedChecks y row) (gives record { outcome = outcome y row; saving = pos (cost y row) -ℤ pos (best .cost) }) (inr refl, tt) tt
+
+  pub refused-zeros : (row : List ℕ) (k : ℕ) (carries : List ℕ) → compared l y row costs choices ≡ refuses k carries
+      → comparisonOrZero (compared l y row costs choices) ≡ record { outcome = record { revisits = 0; splits = 0; cost = 0 }; saving = pos 0 }
+  refused-zeros row k carries e = ap comparisonOrZero e
+
+-- ---- the two areas after the call
+
+module _ (l : Limits) (y : Yard) (row cost choice costAfter choiceAfter : List ℕ)
+    (contractCost : Stays (openCosts l y (length cost) (length choice)) cost costAfter) (contractChoice : Stays (openChoices l y (length cost) (length choice)) choice choiceAfter) where
+  pub record Areas : Type 0 where
+    pub unchanged : {k : ℕ} {carries : List ℕ} → compared l y row (length cost) (length choice) ≡ refuses k carries → (k ≡ 8) ⊎ (k ≡ 10) → (costAfter ≡ cost) × (choiceAfter ≡ choice)
+    pub costBeyond : drop (2 ^ y .trains) costAfter ≡ drop (2 ^ y .trains) cost
+    pub choiceBeyond : drop (y .slots * 2 ^ y .trains) choiceAfter ≡ drop (y .slots * 2 ^ y .trains) choice
+
+  pub areas-after : Areas
+  areas-after = go (begins l y (length cost) (length choice) (y .trains)) refl contractCost contractChoice
+    where
+      go : (b : Bool) → begins l y (length cost) (length choice) (y .trains) ≡ b → Stays (openWords b (costWords y)) cost costAfter → Stays (openWords b (choiceWords y)) choice choiceAfter → Areas
+      go false e c h = record { unchanged = λ q z. (c, h); costBeyond = ap (drop (2 ^ y .trains)) c; choiceBeyond = ap (drop (y .slots * 2 ^ y .trains)) h }
+      go true e c h = record {
+        unchanged = λ {k} q z. absurd (
+            let only = compared-only l y (length cost) (length choice) row (of-true e) in
+            let nine = subst (Only {X = Comparison} λ k carries. (k ≡ 9) ⊎ (k ≡ 14)) q only in
+            ⊎-elim (λ (a : k ≡ 8). ⊎-elim (λ (b : k ≡ 9). omega arith) (λ (b : k ≡ 14). omega arith) nine) (λ (a : k ≡ 10). ⊎-elim (λ (b : k ≡ 9). omega arith) (λ (b : k ≡ 14). omega arith) nine) z
+            );
+        costBeyond = c;
+        choiceBeyond = h;
+      }

@@ -8,15 +8,15 @@ use native.Mathlib.Numerals.{add-one}
 use native.Mathlib.Omega.{arith}
 use lib.Dec.{leb, leb→le}
 use lib.ListN.{length, getD, set, take, drop, length-append}
-use lib.Seq.{sets-eq, take-suc, take-length, take-append-seam}
+use lib.Seq.{sets-eq, take-suc, take-length, take-append-seam, drop-append-seam}
 use borrow.Author.Tests.{le-leb, lt-leb}
 use Rattle.fold.specs.Listed.{listed, joined, joined-none, joined-next, joined-cons, joined-front}
 use Rattle.day.specs.Answer.{Answer, gives, refuses, Check, must, checked}
-use Rattle.day.specs.AnswerLaws.{AllHold, checked-holds, checked-gives, checked-refuses}
+use Rattle.day.specs.AnswerLaws.{AllHold, gives-same, checked-holds, checked-gives, checked-refuses}
 use Rattle.decimal.specs.Place.{Put}
 use Rattle.decimal.specs.PlaceLaws.{put-text, put-byte}
 use Rattle.lines.specs.Lines.{fieldText, rowText, rowsText}
-use Rattle.output.specs.Output.{writes, leaves}
+use Rattle.output.specs.Output.{writes, outAfter, leaves}
 
 -- ---- bytes stored one after the other
 
@@ -126,3 +126,32 @@ count-fits checks text size k e =
     let (h, r) = checked-gives room (gives (length text)) k q in
     let same : length text ≡ k = cc in
     omega (arith, same, leb→le (length text) size (h .0))
+
+-- ---- 01's words: the first bytes of the output are filled and their count is returned, the bytes beyond stay; a refusal changes no byte
+
+pub record Filled (text out : List ℕ) (said : Answer ℕ) (after : List ℕ) : Type 0 where
+  pub given : (k : ℕ) → said ≡ gives k → (k ≡ length text) × ((take k after ≡ text) × (drop k after ≡ drop k out))
+  pub refused : (k : ℕ) (carries : List ℕ) → said ≡ refuses k carries → after ≡ out
+
+pub filled : (checks : List Check) (text out : List ℕ) → Filled text out (writes checks text (length out)) (leaves checks text out)
+unfolding writes leaves
+filled checks text out = go (writes checks text (length out)) refl
+  where
+    room : List Check
+    room = must (leb (length text) (length out)) 10 (0 ∷ []) ∷ []
+
+    counted : (k : ℕ) → writes checks text (length out) ≡ gives k → k ≡ length text
+    counted k e =
+        let q = checked-gives checks (checked room (gives (length text))) k e .1 in
+        sym (gives-same (checked-gives room (gives (length text)) k q .1))
+
+    go : (a : Answer ℕ) → writes checks text (length out) ≡ a → Filled text out a (outAfter a text out)
+    go (gives n) e =
+        let long = counted n e in
+        record {
+          given = λ k q.
+              let same : k ≡ length text = sym (gives-same q) ∙ long in
+              (same, (rw same (take-append-seam text (drop (length text) out)), rw same (drop-append-seam text (drop (length text) out))));
+          refused = λ k carries q. absurd (let z : _≡_ {A = ℕ} 0 1 = cc in omega arith);
+        }
+    go (refuses m values) e = record { given = λ k q. absurd (let z : _≡_ {A = ℕ} 0 1 = cc in omega arith); refused = λ k carries q. refl }

@@ -2,10 +2,15 @@
 -- Assumes nothing.
 use mathlib.Core.List.{List, [], _∷_, _++_}
 use Prim.Native.Nat.{ℕ}
-use lib.ListN.{getD}
+use lib.ListN.{length, getD}
 use Rattle.fold.specs.Listed.{listed}
 use Rattle.model.specs.Model.{Yard, Outcome, outcome, slotOf}
+use Rattle.day.specs.Answer.{Answer}
+use Rattle.day.specs.declared.Limits.{Limits}
+use Rattle.valuing.specs.Valuing.{rowChecks}
 use Rattle.lines.specs.Lines.{ascii, rowText, rowsText}
+use Rattle.output.specs.Output.{writes, leaves}
+use Rattle.output.specs.Laws.{Filled, filled}
 
 -- ---- the plan file: the row's three numbers, then train numbers in file order, each with its slot
 
@@ -27,3 +32,14 @@ planLines n numbers o row = valueNames ++ rowText (valueRow o) ++ slotNames ++ r
 
 abbrev pub planText : Yard → List ℕ → List ℕ
 planText y row = planLines (y .trains) (y .numbers) (outcome y row) row
+
+-- ---- the call: valuing's checks, then the plan's text is written into the output
+
+abbrev pub planWrites : Limits → Yard → List ℕ → ℕ → Answer ℕ
+planWrites l y row size = writes (rowChecks l y row) (planText y row) size
+
+abbrev pub planLeaves : Limits → Yard → List ℕ → List ℕ → List ℕ
+planLeaves l y row out = leaves (rowChecks l y row) (planText y row) out
+
+pub plan-filled : (l : Limits) (y : Yard) (row out : List ℕ) → Filled (planText y row) out (planWrites l y row (length out)) (planLeaves l y row out)
+plan-filled l y row out = filled (rowChecks l y row) (planText y row) out

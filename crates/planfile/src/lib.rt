@@ -1,17 +1,17 @@
 // Writing a plan as a plan file (document 01): a day and a row; checks 8, 11, 12, 13, then 10; fills the first bytes of the output,
 // returns their count and leaves the bytes beyond. A refusal changes no byte.
 //
-// Proved: for every record, every row and every output `write_plan` answers and leaves what `writes` and `leaves` of output's Output.antt
-// say of valuing's checks and of the plan's text (specs/PlanText.antt), which has at most `planBytes` bytes (specs/Size.antt). The
+// Proved: for every record, every row and every output `write_plan` answers and leaves what `planWrites` and `planLeaves` of
+// specs/PlanText.antt say of valuing's checks and of the plan's text, which has at most `planBytes` bytes (specs/Size.antt). The
 // functions below it take slices, so that records of other sizes use them too. Assumes nothing.
 ghost use mathlib.Core.Path.{_≡_};
 ghost use Prim.Native.Nat.{_+_, _≤_};
 ghost use lib.ListN.{length};
 ghost use Rattle.day.specs.Sound.{dayLimits, yard};
 ghost use Rattle.decimal.specs.Place.{Put};
-ghost use Rattle.output.specs.Output.{answer, writes, leaves};
-ghost use Rattle.valuing.specs.Valuing.{rowChecks, outcomeOf};
-ghost use Rattle.planfile.specs.PlanText.{planLines, planText};
+ghost use Rattle.output.specs.Output.{answer};
+ghost use Rattle.valuing.specs.Valuing.{outcomeOf};
+ghost use Rattle.planfile.specs.PlanText.{planLines, planWrites, planLeaves};
 ghost use Rattle.planfile.specs.Laws.{valueLines, slotLines};
 use day::Day;
 use output::Wrote;
@@ -66,8 +66,8 @@ pub fn put_plan(out: &mut [u8], numbers: &[u32], row: &[u8], n: usize, value: Va
 // Writes the plan of a row. The output is lent: its first bytes become the plan file, the others stay; a refusal changes none. So the
 // text is put into a buffer first, which holds that of every allowed row (specs/Size.antt).
 pub fn write_plan(day: Day, row: &[u8], out: &mut [u8]) -> Wrote
-    ensures { λ r. ⌜ answer r ≡ writes (rowChecks dayLimits (yard day) (now (row .entry))) (planText (yard day) (now (row .entry))) (length (now (out .entry))) ⌝ }
-    ensures { λ r. ⌜ now (out .exit) ≡ leaves (rowChecks dayLimits (yard day) (now (row .entry))) (planText (yard day) (now (row .entry))) (now (out .entry)) ⌝ }
+    ensures { λ r. ⌜ answer r ≡ planWrites dayLimits (yard day) (now (row .entry)) (length (now (out .entry))) ⌝ }
+    ensures { λ r. ⌜ now (out .exit) ≡ planLeaves dayLimits (yard day) (now (row .entry)) (now (out .entry)) ⌝ }
 {
     match valuing::value_assignment(day, row) {
         Valued::Refused(refusal) => Wrote::Refused(refusal),

@@ -4,13 +4,13 @@
 -- The checker computes one test over the whole table; `line-holds` turns a line's test into its statement. That an accepted text is
 -- written as the same bytes follows from `read-write`.
 -- Assumes nothing.
-use mathlib.Core.Path.{_≡_, refl, sym}
+use mathlib.Core.Path.{_≡_, refl, sym, ap}
 use mathlib.Core.Bool.{Bool, true, false, cond, _&&_}
 use mathlib.Core.List.{List, [], _∷_, _++_, List·Memᴰ}
 use Prim.Native.Nat.{ℕ, _+_}
 use Prim.Native.String.{String}
 use lib.Dec.{T, eqb, eqb→eq}
-use lib.ListN.{length, getD}
+use lib.ListN.{length, getD, replicate}
 use Rattle.fold.specs.Test.{both-of, sameList, same-list}
 use Rattle.fold.specs.Fold
 use Rattle.fold.specs.Fold.{sum, count, each, lowest}
@@ -30,13 +30,13 @@ use Rattle.table.specs.Lines.{sameAnswer, same-answer}
 use Rattle.decimal.specs.Decimal.{more, value, digitsWithin}
 use Rattle.lines.specs.Lines.{ascii, byte, names, field, row, rowText, rowsText}
 use Rattle.output.specs.Output.{writes}
-use Rattle.valuing.specs.Valuing.{strays, overfull, rowChecks}
-use Rattle.planfile.specs.PlanText.{valueNames, slotNames, planLines, planText}
-use Rattle.answering.specs.Answering.{lineNames, intervalNames, refusalText, answerText}
+use Rattle.valuing.specs.Valuing.{strays, overfull}
+use Rattle.planfile.specs.PlanText.{valueNames, slotNames, planLines, planWrites}
+use Rattle.answering.specs.Answering.{lineNames, intervalNames, refusalText, answerText, answerWrites}
 use Rattle.dayfile.specs.Reading
 use Rattle.dayfile.specs.Reading.{headNames, trainNames, moveNames, position, readTrains, readMoves, readFile, stored, readDay}
 use Rattle.dayfile.specs.Writing.{fileText, moveRows, fileOf, dayText}
-use Rattle.dayfile.specs.Calls.{dayChecks}
+use Rattle.dayfile.specs.Calls.{dayOrZero, dayWrites}
 use Rattle.dayfile.specs.RoundTrip.{read-write}
 use Rattle.dayfile.specs.Size.{dayBytes}
 
@@ -47,21 +47,38 @@ pub data Line : Type 0 where
   acceptedSame : List ℕ → Line
   refused : List ℕ → ℕ → ℕ → Line
   prints : List ℕ → List ℕ → Line
+  answers : List ℕ → ℕ → Answer ℕ → Line
   writesDay : Day → ℕ → Answer ℕ → Line
   writesPlan : Day → List ℕ → ℕ → Answer ℕ → Line
+
+-- a record of zeros
+abbrev pub noDay : Day
+noDay = record {
+  trains = 0;
+  tracks = 0;
+  slots = 0;
+  revisit = 0;
+  split = 0;
+  numbers = replicate 12 0;
+  first = replicate 12 0;
+  last = replicate 12 0;
+  boxes = replicate 144 0;
+}
 
 abbrev pub Holds : Line → Type 0
 -- the text reads to this day, and the day is written as the same bytes
 Holds (accepted text d) = (readDay dayLimits text ≡ gives (yard d)) × (dayText (yard d) ≡ text)
 -- the same of some day
 Holds (acceptedSame text) = (y : Yard) × (readDay dayLimits text ≡ gives y) × (dayText y ≡ text)
--- the text is refused with this number and this line
-Holds (refused text k line) = readDay dayLimits text ≡ refuses k (line ∷ [])
+-- the text is refused with this number and this line, beside a record of zeros
+Holds (refused text k line) = (readDay dayLimits text ≡ refuses k (line ∷ [])) × (dayOrZero dayLimits (readDay dayLimits text) ≡ yard noDay)
 -- for this text yard-plan prints these bytes
 Holds (prints text bytes) = answerText dayLimits text ≡ bytes
+-- answering the text into an output of so many bytes gives this answer
+Holds (answers text size a) = answerWrites dayLimits text size ≡ a
 -- writing the day, or the plan of a row, into an output of so many bytes gives this answer
-Holds (writesDay d bytes a) = writes (dayChecks dayLimits (yard d)) (dayText (yard d)) bytes ≡ a
-Holds (writesPlan d row bytes a) = writes (rowChecks dayLimits (yard d) row) (planText (yard d) row) bytes ≡ a
+Holds (writesDay d bytes a) = dayWrites dayLimits (yard d) bytes ≡ a
+Holds (writesPlan d row bytes a) = planWrites dayLimits (yard d) row bytes ≡ a
 
 -- ---- texts
 
@@ -222,6 +239,9 @@ table =
     ∷ prints (withHead "4 2 2 1 1\n") (ascii "revisits splits cost\n1 7 8\ntrain slot\n1 2\n2 1\n3 2\n4 1\n")
     ∷ prints (file "3 2 2 1 1\n" "1 1 1\n2 1 1\n3 1 1\n" "") (ascii "refusal first last trains\n9 1 1 3\n")
     ∷ prints (withTrains "1 01 2\n2 1 2\n3 1 2\n4 1 2\n") (ascii "refusal line\n2 4\n")
+    -- the answer in an output that is just long enough, and one byte short
+    ∷ answers (withHead "4 2 2 1 1\n") 54 (gives 54)
+    ∷ answers (withHead "4 2 2 1 1\n") 53 (refuses 10 (0 ∷ []))
     -- writing a day into an output that is just long enough, and one byte short; 8 before 10
     ∷ writesDay (paperDay 1 1 1) 129 (gives 129)
     ∷ writesDay (paperDay 1 1 1) 128 (refuses 10 (0 ∷ []))
@@ -251,8 +271,9 @@ passes (accepted text d) = sameAnswer sameYard (readDay dayLimits text) (gives (
 passes (acceptedSame text) = isGiven (readDay dayLimits text)
 passes (refused text k line) = sameAnswer sameYard (readDay dayLimits text) (refuses k (line ∷ []))
 passes (prints text bytes) = sameList (answerText dayLimits text) bytes
-passes (writesDay d bytes a) = sameAnswer eqb (writes (dayChecks dayLimits (yard d)) (dayText (yard d)) bytes) a
-passes (writesPlan d row bytes a) = sameAnswer eqb (writes (rowChecks dayLimits (yard d) row) (planText (yard d) row) bytes) a
+passes (answers text size a) = sameAnswer eqb (answerWrites dayLimits text size) a
+passes (writesDay d bytes a) = sameAnswer eqb (dayWrites dayLimits (yard d) bytes) a
+passes (writesPlan d row bytes a) = sameAnswer eqb (planWrites dayLimits (yard d) row bytes) a
 
 -- the one computation
 computed : T (allPass passes table)
@@ -311,10 +332,11 @@ line-holds (accepted text d) t =
 line-holds (acceptedSame text) t =
     let (y, reads) = is-given (readDay dayLimits text) t in
     (y, reads, sym (read-write dayLimits text y reads))
-line-holds (refused text k line) t = same-answer sameYard same-yard (readDay dayLimits text) (refuses k (line ∷ [])) t
+line-holds (refused text k line) t = let e = same-answer sameYard same-yard (readDay dayLimits text) (refuses k (line ∷ [])) t in (e, ap (dayOrZero dayLimits) e)
 line-holds (prints text bytes) t = same-list (answerText dayLimits text) bytes t
-line-holds (writesDay d bytes a) t = same-answer eqb eqb→eq (writes (dayChecks dayLimits (yard d)) (dayText (yard d)) bytes) a t
-line-holds (writesPlan d row bytes a) t = same-answer eqb eqb→eq (writes (rowChecks dayLimits (yard d) row) (planText (yard d) row) bytes) a t
+line-holds (answers text size a) t = same-answer eqb eqb→eq (answerWrites dayLimits text size) a t
+line-holds (writesDay d bytes a) t = same-answer eqb eqb→eq (dayWrites dayLimits (yard d) bytes) a t
+line-holds (writesPlan d row bytes a) t = same-answer eqb eqb→eq (planWrites dayLimits (yard d) row bytes) a t
 
 pub every-line : (l : Line) → List·Memᴰ l table → Holds l
 every-line = all-hold passes Holds line-holds table computed

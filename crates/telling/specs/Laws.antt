@@ -3,10 +3,11 @@
 use mathlib.Core.Path.{_≡_, refl, ap, _∙_, subst}
 use mathlib.Core.Bool.{true, false}
 use mathlib.Core.List.{List, [], _∷_, _++_}
-use Prim.Native.Nat.{ℕ, _≤_}
+use Prim.Native.Nat.{ℕ, _≤_, _<_}
 use native.Mathlib.Omega.{arith}
 use lib.Dec.{leb}
 use lib.ListN.{length, set, drop}
+use borrow.Author.Tests.{le-leb, lt-leb}
 use Rattle.model.specs.Model.{Yard, Outcome}
 use Rattle.day.specs.Answer.{Answer, gives, refuses, refusal, code, number, carried}
 use Rattle.day.specs.declared.Limits.{Limits}
@@ -57,3 +58,24 @@ module _ (l : Limits) (text : List ℕ) (size : ℕ) where
 
   pub with-room : leb 3 size ≡ true → {a : Answer Yard} → readDay l text ≡ a → dayFor l text size ≡ a
   with-room h e = rw h e
+
+-- ---- the header's words: three numbers, or what the refusal carries and then zeros; those beyond stay
+
+module _ (before : List ℕ) (room : 3 ≤ length before) where
+  pub numbers-given : (o : Outcome) → numbersAfter (gives o) before ≡ o .revisits ∷ o .splits ∷ o .cost ∷ drop 3 before
+  unfolding numbersAfter
+  numbers-given o = rw (le-leb 3 (length before) room)
+
+  -- 1 to 7, 10 to 14 carry one value
+  pub numbers-one : (k value : ℕ) → numbersAfter (refuses k (value ∷ [])) before ≡ value ∷ 0 ∷ 0 ∷ drop 3 before
+  unfolding numbersAfter
+  numbers-one k value = rw (le-leb 3 (length before) room)
+
+  -- 9 carries three
+  pub numbers-three : (k a b c : ℕ) → numbersAfter (refuses k (a ∷ b ∷ c ∷ [])) before ≡ a ∷ b ∷ c ∷ drop 3 before
+  unfolding numbersAfter
+  numbers-three k a b c = rw (le-leb 3 (length before) room)
+
+pub numbers-none : (a : Answer Outcome) (before : List ℕ) → length before < 3 → numbersAfter a before ≡ before
+unfolding numbersAfter
+numbers-none a before short = rw (lt-leb 3 (length before) short)

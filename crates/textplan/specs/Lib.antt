@@ -1,2 +1,3 @@
 pub mod TextPlan
 pub mod Laws
+pub mod Means

@@ -5,32 +5,43 @@
 --   plan-returns      yard_plan, lent a row of 12 bytes: 0 to 7 or 9, never 8 and never 10.
 -- And without room for three numbers:
 --   no-numbers        all but yard_check: 10, whatever the text.
+-- What they return means, on the day y that a text reads to, and with room for three numbers:
+--   check-line        yard_check tells the line of the refusal, and 0 where there is none;
+--   value-exactly     yard_value gives numbers exactly where the row is allowed, and they are the model's;
+--   compare-is        the comparing functions answer what comparing the day does (`saves` of baselines says what that means);
+--   plan-exactly      yard_plan, lent a row of 12 bytes, gives a plan exactly where an allowed row exists: `plans-best` and `plans-nine` of
+--                     textplan say which, and what stands in the row.
 -- Assumes nothing.
-use mathlib.Core.Path.{_≡_, refl, subst, sym}
+use mathlib.Core.Path.{_≡_, refl, sym, ap, subst}
 use mathlib.Core.List.{List, [], _∷_}
-use mathlib.Core.Logic.{_⊎_, inl, inr}
-use Prim.Native.Nat.{ℕ, _≤_, _<_, zero-le}
+use mathlib.Core.Logic.{_⊎_, inl, inr, _↔_}
+use Prim.Native.Nat.{ℕ, _*_, _^_, _≤_, _<_, zero-le}
+use native.Mathlib.Nat.{mul-le-mul}
 use native.Mathlib.Omega.{arith}
 use lib.Dec.{T, leb}
+use lib.ListN.{length}
+use lib.Pow.{pow-mono}
 use borrow.Author.Tests.{le-leb, lt-leb}
-use Rattle.model.specs.Model.{Yard}
+use Rattle.model.specs.Model.{Yard, Outcome, outcome, allowed}
 use Rattle.day.specs.Answer.{Answer, gives, refuses, code, onGiven}
 use Rattle.day.specs.AnswerLaws.{Only, only-given, only-wider}
 use Rattle.day.specs.Sound.{dayLimits, sound}
-use Rattle.day.specs.SoundLaws.{sound-is}
+use Rattle.day.specs.SoundLaws.{Sound, sound-is}
 use Rattle.dayfile.specs.Reading.{readDay}
 use Rattle.dayfile.specs.RoundTrip.{read-sound}
 use Rattle.dayfile.specs.Refused.{Lined, read-lined}
 use Rattle.valuing.specs.Valuing.{valued}
-use Rattle.valuing.specs.Laws.{SlotRefusal, valued-only}
+use Rattle.valuing.specs.Laws.{SlotRefusal, valued-only, valued-allowed, allowed-valued}
+use Rattle.feasibility.specs.Verdict.{SomeRow}
 use Rattle.planning.specs.Planning.{planned}
-use Rattle.planning.specs.Answers.{areas-suffice, planned-only}
+use Rattle.planning.specs.Answers.{areas-suffice, planned-only, from-best}
 use Rattle.baselines.specs.Baselines.{Comparison, compared}
 use Rattle.baselines.specs.Savings.{compared-only}
 use Rattle.telling.specs.Telling.{dayFor, forDay}
 use Rattle.telling.specs.Laws.{no-room, with-room}
 use Rattle.textplan.specs.TextPlan.{planFor}
-use Rattle.yard.specs.Interface.{costArea, choiceArea, valueText, compareText}
+use Rattle.textplan.specs.Means.{plans-best}
+use Rattle.yard.specs.Interface.{costArea, choiceArea, line, valueText, compareText}
 
 -- 1 to 7, or a number of the call's own
 abbrev Or : (ℕ → Type 0) → ℕ → List ℕ → Type 0
@@ -74,6 +85,49 @@ module _ (text : List ℕ) where
     plan-returns bytes long =
         for-sound (λ k. k ≡ 9) size (λ y. planned dayLimits y costArea choiceArea bytes) room
         λ y s. planned-only dayLimits y costArea choiceArea bytes (areas-suffice y bytes s (omega (arith, sound-is dayLimits y s .trains .1)))
+
+  -- ---- what is returned means
+
+  pub check-line : (k at : ℕ) → readDay dayLimits text ≡ refuses k (at ∷ []) → (code (readDay dayLimits text) ≡ k) × (line (readDay dayLimits text) ≡ at)
+  check-line k at e = (ap code e, ap line e)
+
+  pub check-none : (y : Yard) → readDay dayLimits text ≡ gives y → (code (readDay dayLimits text) ≡ 0) × (line (readDay dayLimits text) ≡ 0)
+  check-none y e = (ap code e, ap line e)
+
+  module _ (y : Yard) (reads : readDay dayLimits text ≡ gives y) (size : ℕ) (room : 3 ≤ size) where
+    day : dayFor dayLimits text size ≡ gives y
+    day = with-room dayLimits text size (le-leb 3 size room) reads
+
+    pub value-allowed : (row : List ℕ) → T (allowed y row) → valueText dayLimits text row size ≡ gives (outcome y row)
+    unfolding valueText
+    value-allowed row a = rw day (valued-allowed dayLimits y row (read-sound dayLimits text y reads) a)
+
+    pub value-exactly : (row : List ℕ) (o : Outcome) → valueText dayLimits text row size ≡ gives o → T (allowed y row) × (outcome y row ≡ o)
+    unfolding valueText
+    value-exactly row o e = let (s, a, q) = allowed-valued dayLimits y row o (rw day at e) in (a, q)
+
+    pub compare-is : (procedure : Yard → List ℕ) → compareText procedure dayLimits text size ≡ compared dayLimits y (procedure y) 4096 32768
+    unfolding compareText
+    compare-is procedure = rw day
+
+    pub plan-exactly : (row : List ℕ) → 12 ≤ length row → ((o : Outcome) × (planFor dayLimits text costArea choiceArea (length row) size ≡ gives o)) ↔ SomeRow y
+    unfolding planFor
+    plan-exactly row long = (λ g. back (g .0) (rw day at (g .1)), λ r. let (best, p) = plans-best dayLimits text y reads costArea choiceArea size row room costs choices few r in (outcome y best, p .says))
+      where
+        is : Sound dayLimits y
+        is = sound-is dayLimits y (read-sound dayLimits text y reads)
+
+        costs : 2 ^ y .trains ≤ costArea
+        costs = pow-mono (is .trains .1)
+
+        choices : y .slots * 2 ^ y .trains ≤ choiceArea
+        choices = mul-le-mul (is .slots .1) costs
+
+        few : y .trains ≤ length row
+        few = omega (arith, is .trains .1)
+
+        back : (o : Outcome) → planned dayLimits y costArea choiceArea (length row) ≡ gives o → SomeRow y
+        back o e = let b = from-best dayLimits y costArea choiceArea (length row) o e in (b .row, b .best .isAllowed)
 
   module _ (size : ℕ) (short : size < 3) where
     none : {X : Type 0} (f : Yard → Answer X) → code (forDay dayLimits text size f) ≡ 10

@@ -4,15 +4,13 @@
 // Proved: for every text, row and lent memory each function returns and leaves what specs/Interface.antt says; too little room gives
 // refusal 10. Assumes nothing; of a caller only that a pointer has the length that is given beside it.
 ghost use mathlib.Core.Path.{_≡_};
-ghost use mathlib.Core.List.{[]};
 ghost use Prim.Native.Nat.{_≤_};
 ghost use lib.ListN.{length};
 ghost use Rattle.day.specs.Answer.{code};
 ghost use Rattle.day.specs.Sound.{dayLimits, yard};
 ghost use Rattle.valuing.specs.Valuing.{valued};
 ghost use Rattle.dayfile.specs.Reading.{readDay};
-ghost use Rattle.output.specs.Output.{writes, leaves};
-ghost use Rattle.answering.specs.Answering.{answerText};
+ghost use Rattle.answering.specs.Answering.{answerWrites, answerLeaves};
 ghost use Rattle.procedures.specs.Procedures.{firstCome, myopic};
 ghost use Rattle.baselines.specs.Baselines.{answer, comparisonOf, comparisonOrZero, rowBy, compared};
 ghost use Rattle.planning.specs.Planning.{costWords, choiceWords, Stays};
@@ -40,9 +38,9 @@ pub extern "C" fn yard_version() -> u64
 // What yard-plan prints for a text, in the first bytes of `out`, and their count; or 10, with a count of 0.
 #[no_mangle]
 pub extern "C" fn yard_answer(text: &[u8], out: &mut [u8], bytes: &mut usize) -> u64
-    ensures { λ r. ⌜ r ≡ code (writes [] (answerText dayLimits (now (text .entry))) (length (now (out .entry)))) ⌝ }
-    ensures { λ _. ⌜ now (bytes .exit) ≡ count (writes [] (answerText dayLimits (now (text .entry))) (length (now (out .entry)))) ⌝ }
-    ensures { λ _. ⌜ now (out .exit) ≡ leaves [] (answerText dayLimits (now (text .entry))) (now (out .entry)) ⌝ }
+    ensures { λ r. ⌜ r ≡ code (answerWrites dayLimits (now (text .entry)) (length (now (out .entry)))) ⌝ }
+    ensures { λ _. ⌜ now (bytes .exit) ≡ count (answerWrites dayLimits (now (text .entry)) (length (now (out .entry)))) ⌝ }
+    ensures { λ _. ⌜ now (out .exit) ≡ answerLeaves dayLimits (now (text .entry)) (now (out .entry)) ⌝ }
 {
     match answering::answer_text(text, out) {
         Wrote::Bytes(n) => {
