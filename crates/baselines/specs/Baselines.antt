@@ -8,7 +8,7 @@ use lib.IntN.{ℤ, pos, _-ℤ_}
 use Rattle.model.specs.Model.{Yard, Outcome, outcome, cost}
 use Rattle.day.specs.Answer.{Answer, gives, refuses, refusal, onGiven, Check, must, checked}
 use Rattle.day.specs.declared.Limits.{Limits}
-use Rattle.valuing.specs.Valuing.{outcomeOf, noOutcome}
+use Rattle.counting.specs.Counting.{outcomeOf, noOutcome}
 use Rattle.planning.specs.Planning.{costWords, choiceWords, planned, begins, openWords}
 use Rattle.procedures.specs.Procedures.{leftOver, firstCome, myopic}
 use Rattle.baselines.specs.declared.Baseline.{Baseline}

@@ -15,8 +15,8 @@ use Rattle.day.specs.Answer.{Answer, gives, refuses}
 use Rattle.day.specs.Sound.{dayLimits, sound}
 use Rattle.day.specs.Most.{cost-most}
 use Rattle.day.specs.declared.Limits.{Limits}
-use Rattle.valuing.specs.Valuing.{outcomeOf}
-use Rattle.valuing.specs.declared.Value.{Value}
+use Rattle.counting.specs.Counting.{outcomeOf}
+use Rattle.counting.specs.declared.Value.{Value}
 use Rattle.planning.specs.Planning.{planned}
 use Rattle.procedures.specs.Procedures.{leftOver}
 use Rattle.baselines.specs.Baselines.{Comparison, comparisonOf, answer, comparisonOrZero, against, compared}

@@ -14,10 +14,10 @@ ghost use Rattle.planning.specs.Planning.{answer as planAnswer, planned, Stays}
 ghost use Rattle.procedures.specs.Procedures.{firstCome, myopic};
 ghost use Rattle.baselines.specs.Baselines.{answer, comparisonOf, comparisonOrZero, rowBy, against, compared, openCosts, openChoices};
 ghost use Rattle.baselines.specs.Laws.{Says};
+use counting::Value;
 use day::Day;
 use day::Refusal;
 use planning::Planned;
-use valuing::Value;
 
 // The procedures that planning is compared with.
 pub enum Procedure {
@@ -42,7 +42,7 @@ fn refused(given: Refusal) -> Baseline
 {
     Baseline {
         verdict: Verdict::Refused(given),
-        value: valuing::zero_value(),
+        value: counting::zero_value(),
         saving: 0,
     }
 }
@@ -58,7 +58,7 @@ fn compare(day: Day, row: &[u8], best: u64) -> Baseline
         return refused(Refusal::WithoutSlot(left + 1));
     }
     let boxes = day.boxes;
-    let value = valuing::value_slots(&boxes, 12, row, n, day.revisit, day.split);
+    let value = counting::value_slots(&boxes, 12, row, n, day.revisit, day.split);
     Baseline {
         verdict: Verdict::Compared,
         value: value,

@@ -10,12 +10,12 @@ ghost use lib.ListN.{length};
 ghost use Rattle.day.specs.Sound.{dayLimits, yard};
 ghost use Rattle.decimal.specs.Place.{Put};
 ghost use Rattle.output.specs.Output.{answer};
-ghost use Rattle.valuing.specs.Valuing.{outcomeOf};
+ghost use Rattle.counting.specs.Counting.{outcomeOf};
 ghost use Rattle.planfile.specs.PlanText.{planLines, planWrites, planLeaves};
 ghost use Rattle.planfile.specs.Laws.{valueLines, slotLines};
+use counting::Value;
 use day::Day;
 use output::Wrote;
-use valuing::Value;
 use valuing::Valued;
 
 // The greatest size of a plan file (specs/Size.antt).

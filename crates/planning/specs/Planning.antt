@@ -14,7 +14,7 @@ use Rattle.model.specs.Overbooked.{Interval, firstOverbooked}
 use Rattle.day.specs.Sound.{sound}
 use Rattle.day.specs.Answer.{Answer, gives, refuses, refusal, Check, must, checked}
 use Rattle.day.specs.declared.Limits.{Limits}
-use Rattle.valuing.specs.Valuing.{outcomeOf}
+use Rattle.counting.specs.Counting.{outcomeOf}
 use Rattle.planning.specs.declared.Planned.{Planned}
 use Rattle.planning.specs.declared.Planned.the-variants.{Plan, Refused}
 

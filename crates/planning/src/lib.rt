@@ -15,10 +15,10 @@ ghost use Rattle.optimum.specs.Layers.{Solved};
 ghost use Rattle.staging.specs.Tables.{servable, slotCost, noCost};
 ghost use Rattle.staging.specs.Reachable.{Reachable};
 ghost use Rattle.planning.specs.Laws.{Placed, Decided};
+use counting::Value;
 use day::Day;
 use day::Refusal;
 use feasibility::Overbooked;
-use valuing::Value;
 
 pub enum Planned {
     Plan(Value),
@@ -111,7 +111,7 @@ fn plan_sound(
         });
     }
     place_trains(day, cost, choice, row, size);
-    Planned::Plan(valuing::value_slots(&boxes, 12, &row[..n], n, day.revisit, day.split))
+    Planned::Plan(counting::value_slots(&boxes, 12, &row[..n], n, day.revisit, day.split))
 }
 
 // Plans a day. `cost` needs 2^n words, `choice` T × 2^n words, `row` n bytes: else 10.

@@ -8,7 +8,7 @@ ghost use lib.IntN.{pos, _-ℤ_};
 ghost use lib.ListN.{length, replicate};
 ghost use Rattle.fold.specs.Fold.{sum, some};
 ghost use Rattle.model.specs.Model.{cell};
-ghost use Rattle.valuing.specs.Given.{Given, GivenPair};
+ghost use Rattle.counting.specs.Given.{Given, GivenPair};
 ghost use Rattle.procedures.specs.Procedures.{inTime, trackFree, leftOver, earliest, comeTo, waitingSupplier, outsideBoxes, priority, select, fillTo, servedTo};
 
 // ---- first come
@@ -26,7 +26,7 @@ fn is_track_free(row: &[u8], n: usize, tracks: u32, t: u8) -> bool
     requires { ⌜ (n ≤ 64) × (n ≤ length (now row)) ⌝ }
     ensures { λ r. ⌜ r ≡ trackFree n tracks (now (row .entry)) t ⌝ }
 {
-    u64::count_ones(valuing::slot_mask(row, n, t)) < tracks
+    u64::count_ones(counting::slot_mask(row, n, t)) < tracks
 }
 
 // The earliest slot for train i, counted from 0, or the number of slots.

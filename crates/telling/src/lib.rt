@@ -7,11 +7,11 @@ ghost use Prim.Native.Nat.{_≤_};
 ghost use lib.Dec.{leb};
 ghost use lib.ListN.{length, drop};
 ghost use Rattle.day.specs.Answer.{gives, refusal};
-ghost use Rattle.valuing.specs.Valuing.{outcomeOf};
+ghost use Rattle.counting.specs.Counting.{outcomeOf};
 ghost use Rattle.telling.specs.Telling.{three};
 ghost use Rattle.telling.specs.Laws.{Told};
+use counting::Value;
 use day::Refusal;
-use valuing::Value;
 
 // Whether there is room for three numbers.
 pub fn is_room(size: usize) -> bool

@@ -1,3 +1,2 @@
 pub mod Valuing
-pub mod Given
 pub mod Laws

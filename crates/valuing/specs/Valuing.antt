@@ -11,18 +11,11 @@ use Rattle.model.specs.Model.{Yard, Outcome, outcome, inWindow, roomy}
 use Rattle.day.specs.Sound.{sound}
 use Rattle.day.specs.Answer.{Answer, gives, refusal, Check, must, checked}
 use Rattle.day.specs.declared.Limits.{Limits}
-use Rattle.valuing.specs.declared.Value.{Value}
+use Rattle.counting.specs.Counting.{outcomeOf}
 use Rattle.valuing.specs.declared.Valued.{Valued}
 use Rattle.valuing.specs.declared.Valued.the-variants.{Values, Refused}
 
 -- ---- the code's answer in 01's numbers
-
-abbrev pub outcomeOf : Value → Outcome
-outcomeOf v = record { revisits = v .revisits .0; splits = v .splits .0; cost = v .cost }
-
--- what stands beside a refusal
-abbrev pub noOutcome : Outcome
-noOutcome = record { revisits = 0; splits = 0; cost = 0 }
 
 abbrev pub answer : Valued → Answer Outcome
 answer (Values v) = gives (outcomeOf v)

@@ -11,7 +11,7 @@ use Rattle.day.specs.Sound.{dayLimits, yard}
 use Rattle.day.specs.SoundLaws.{sound-is}
 use Rattle.day.specs.Answer.{gives}
 use Rattle.output.specs.Laws.{put-count}
-use Rattle.valuing.specs.Valuing.{outcomeOf}
+use Rattle.counting.specs.Counting.{outcomeOf}
 use Rattle.planfile.specs.PlanText.{planLines}
 use Rattle.planfile.specs.Size.{planBytes}
 use Rattle.planning.specs.Planning.{answer, begins, bestAnswer, placed}

@@ -2,7 +2,7 @@
 -- Assumes nothing.
 use native.Mathlib.Omega.{arith}
 use Rattle.decimal.specs.PlaceLaws.{put-text}
-use Rattle.valuing.specs.Valuing.{outcomeOf}
+use Rattle.counting.specs.Counting.{outcomeOf}
 use Rattle.planfile.specs.Laws.{plan-lines, plan-length}
 use borrow.Author.Needs.{needs}
 use Rattle.planfile.proofs.put_plan.Statement.{statement}

@@ -6,7 +6,7 @@ use native.Mathlib.Omega.{arith}
 use lib.ListN.{length, length-append}
 use Rattle.decimal.specs.PlaceLaws.{put-text}
 use Rattle.lines.specs.Lines.{rowText}
-use Rattle.valuing.specs.Valuing.{outcomeOf}
+use Rattle.counting.specs.Counting.{outcomeOf}
 use Rattle.planfile.specs.PlanText.{valueNames, valueRow}
 use borrow.Author.Needs.{needs}
 use Rattle.planfile.proofs.put_values.Statement.{statement}

@@ -11,7 +11,8 @@ use Rattle.day.specs.Answer.{gives}
 use Rattle.day.specs.AnswerLaws.{AllHold, checked-gives}
 use Rattle.day.specs.Sound.{dayLimits, yard, sound}
 use Rattle.day.specs.SoundLaws.{sound-is}
-use Rattle.valuing.specs.Valuing.{rowChecks, outcomeOf, valued}
+use Rattle.counting.specs.Counting.{outcomeOf}
+use Rattle.valuing.specs.Valuing.{rowChecks, valued}
 use Rattle.valuing.specs.Laws.{allowed-valued}
 use Rattle.output.specs.Laws.{put-count, put-front, says-refused, says-text}
 use Rattle.planfile.specs.PlanText.{planLines, planText}

@@ -5,7 +5,7 @@ use Prim.Native.Nat.{_≤_, _-_, _*_}
 use native.Mathlib.Omega.{arith}
 use Rattle.fold.specs.Fold.{sum, sum-none, sum-next, at-end}
 use Rattle.model.specs.Model.{cell}
-use Rattle.valuing.specs.Given.{given-pair}
+use Rattle.counting.specs.Given.{given-pair}
 use Rattle.procedures.specs.Procedures.{outsideBoxes}
 use borrow.Author.Needs.{needs}
 use Rattle.procedures.proofs.boxes_outside.Statement.{statement}

@@ -5,7 +5,7 @@ use mathlib.Core.Bool.{false}
 use Prim.Native.Nat.{_≤_, _-_}
 use Rattle.fold.specs.Fold.{some, no-some, some-found, none-next, none-end}
 use Rattle.model.specs.Model.{cell}
-use Rattle.valuing.specs.Given.{given-pair}
+use Rattle.counting.specs.Given.{given-pair}
 use Rattle.procedures.specs.Procedures.{waitingSupplier}
 use borrow.Author.Needs.{needs}
 use Rattle.procedures.proofs.has_waiting_supplier.Statement.{statement}

@@ -1,11 +1,11 @@
--- `valuing::weigh` meets its contract. The two products and their sum fit 64 bits.
+-- `counting::weigh` meets its contract. The two products and their sum fit 64 bits.
 -- Assumes nothing.
 use native.Mathlib.Omega.{arith}
 use native.Mathlib.Nat.{mul-le-mul}
 use Rattle.model.specs.Model.{weighed}
 use borrow.Author.Needs.{needs}
-use Rattle.valuing.proofs.weigh.Statement.{statement}
-use Rattle.valuing.proofs.weigh.Tie as tie
+use Rattle.counting.proofs.weigh.Statement.{statement}
+use Rattle.counting.proofs.weigh.Tie as tie
 
 wide32-requires : tie.Need-wide32-requires
 wide32-requires c κs = search needs

@@ -1,11 +1,11 @@
--- `valuing::split_boxes` meets its contract. By the two cases of the test that the slots are equal.
+-- `counting::split_boxes` meets its contract. By the two cases of the test that the slots are equal.
 -- Assumes nothing.
 use mathlib.Core.Path.{_∙_}
 use borrow.Author.Tests.{eq-eqb, ne-eqb}
 use Rattle.model.specs.Model.{splitBoxes}
 use borrow.Author.Needs.{needs}
-use Rattle.valuing.proofs.split_boxes.Statement.{statement}
-use Rattle.valuing.proofs.split_boxes.Tie as tie
+use Rattle.counting.proofs.split_boxes.Statement.{statement}
+use Rattle.counting.proofs.split_boxes.Tie as tie
 
 shared-slice-read-if1 : tie.Need-shared-slice-read-if1
 shared-slice-read-if1 c = c .before .before .before .pre .to

@@ -1,9 +1,9 @@
--- `valuing::is_late_supplier` meets its contract. The test is the definition's, with the entry of the table put in.
+-- `counting::is_late_supplier` meets its contract. The test is the definition's, with the entry of the table put in.
 -- Assumes nothing.
 use Rattle.model.specs.Model.{lateSupplier}
 use borrow.Author.Needs.{needs}
-use Rattle.valuing.proofs.is_late_supplier.Statement.{statement}
-use Rattle.valuing.proofs.is_late_supplier.Tie as tie
+use Rattle.counting.proofs.is_late_supplier.Statement.{statement}
+use Rattle.counting.proofs.is_late_supplier.Tie as tie
 
 cell-at-requires : tie.Need-cell-at-requires
 cell-at-requires c κs = search needs

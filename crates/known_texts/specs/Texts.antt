@@ -25,8 +25,8 @@ use Rattle.model.specs.Overbooked.{firstOverbooked, overbookedFrom, overbookedF
 use Rattle.day.specs.Answer.{Answer, gives, refuses}
 use Rattle.day.specs.Sound.{dayLimits, yard, within, headRanges, trainRanges, moveRanges, headRow, shaped, sound, numberBefore, trainSound, unused, positionSound, pairSound, receiverSound}
 use Rattle.day.specs.declared.Day.{Day}
-use Rattle.table.specs.Days.{move, dayOf, openDay, paperDay, numbered}
-use Rattle.table.specs.Lines.{sameAnswer, same-answer}
+use Rattle.known_days.specs.Days.{move, dayOf, openDay, paperDay, numbered}
+use Rattle.known_days.specs.Lines.{sameAnswer, same-answer}
 use Rattle.decimal.specs.Decimal.{more, value, digitsWithin}
 use Rattle.lines.specs.Lines.{ascii, byte, names, field, row, rowText, rowsText}
 use Rattle.output.specs.Output.{writes}

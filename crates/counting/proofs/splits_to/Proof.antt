@@ -1,4 +1,4 @@
--- `valuing::splits_to` meets its contract. The loop's invariant: the sum of the split boxes from the trains passed, at most 255 for each.
+-- `counting::splits_to` meets its contract. The loop's invariant: the sum of the split boxes from the trains passed, at most 255 for each.
 -- Assumes nothing.
 use Prim.Native.Nat.{_≤_, _-_, _*_}
 use mathlib.Core.Path.{_≡_, sym, _∙_}
@@ -6,9 +6,9 @@ use borrow.Author.Needs.{needs}
 use native.Mathlib.Omega.{arith}
 use Rattle.fold.specs.Fold.{sum, sum-none, sum-next, at-end}
 use Rattle.model.specs.Model.{cell, splitBoxes, splitsTo}
-use Rattle.valuing.specs.Given.{given-pair}
-use Rattle.valuing.proofs.splits_to.Statement.{statement}
-use Rattle.valuing.proofs.splits_to.Tie as tie
+use Rattle.counting.specs.Given.{given-pair}
+use Rattle.counting.proofs.splits_to.Statement.{statement}
+use Rattle.counting.proofs.splits_to.Tie as tie
 
 abbrev Inv-loop : tie.InvT-loop
 Inv-loop boxes width slots n i total₀ j₀ total j = (j ≤ n) × (total ≡ sum j (splitBoxes (cell width boxes) slots i)) × (total ≤ 255 * j)

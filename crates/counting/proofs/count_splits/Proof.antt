@@ -1,4 +1,4 @@
--- `valuing::count_splits` meets its contract. The loop's invariant: the sum of the split moves of the trains passed, at most 16,320 for each.
+-- `counting::count_splits` meets its contract. The loop's invariant: the sum of the split moves of the trains passed, at most 16,320 for each.
 -- Assumes nothing.
 use Prim.Native.Nat.{_≤_, _-_, _*_}
 use mathlib.Core.Path.{_≡_, sym, _∙_}
@@ -6,8 +6,8 @@ use borrow.Author.Needs.{needs}
 use native.Mathlib.Omega.{arith}
 use Rattle.fold.specs.Fold.{sum, sum-none, sum-next, at-end}
 use Rattle.model.specs.Model.{cell, splitsTo, splits}
-use Rattle.valuing.proofs.count_splits.Statement.{statement}
-use Rattle.valuing.proofs.count_splits.Tie as tie
+use Rattle.counting.proofs.count_splits.Statement.{statement}
+use Rattle.counting.proofs.count_splits.Tie as tie
 
 abbrev Inv-loop : tie.InvT-loop
 Inv-loop boxes width slots n total₀ i₀ total i = (i ≤ n) × (total ≡ sum i (splitsTo n (cell width boxes) slots)) × (total ≤ 16320 * i)

@@ -1,4 +1,4 @@
--- `valuing::count_revisits` meets its contract. The loop's invariant: the count of the revisiting trains passed, at most one for each.
+-- `counting::count_revisits` meets its contract. The loop's invariant: the count of the revisiting trains passed, at most one for each.
 -- Assumes nothing.
 use Prim.Native.Nat.{_≤_, _-_}
 use mathlib.Core.Path.{_≡_, sym, ap, _∙_}
@@ -8,8 +8,8 @@ use native.Mathlib.Omega.{arith}
 use Rattle.fold.specs.Fold
 use Rattle.fold.specs.Fold.{bit, count-none, count-next, at-end}
 use Rattle.model.specs.Model.{cell, revisiting, revisits}
-use Rattle.valuing.proofs.count_revisits.Statement.{statement}
-use Rattle.valuing.proofs.count_revisits.Tie as tie
+use Rattle.counting.proofs.count_revisits.Statement.{statement}
+use Rattle.counting.proofs.count_revisits.Tie as tie
 
 abbrev Inv-loop : tie.InvT-loop
 Inv-loop boxes width slots n count₀ i₀ count i = (i ≤ n) × (count ≡ Fold.count i (revisiting n (cell width boxes) slots)) × (count ≤ i)

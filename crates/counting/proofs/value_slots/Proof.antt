@@ -1,10 +1,10 @@
--- `valuing::value_slots` meets its contract. The three numbers, each by its own function.
+-- `counting::value_slots` meets its contract. The three numbers, each by its own function.
 -- Assumes nothing.
 use mathlib.Core.Path.{ap₂, _∙_}
 use Rattle.model.specs.Model.{weighed}
 use borrow.Author.Needs.{needs}
-use Rattle.valuing.proofs.value_slots.Statement.{statement}
-use Rattle.valuing.proofs.value_slots.Tie as tie
+use Rattle.counting.proofs.value_slots.Statement.{statement}
+use Rattle.counting.proofs.value_slots.Tie as tie
 
 count-revisits-requires : tie.Need-count-revisits-requires
 count-revisits-requires c κs = search needs

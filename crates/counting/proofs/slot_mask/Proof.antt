@@ -1,4 +1,4 @@
--- `valuing::slot_mask` meets its contract. The loop's invariant: the mask of the positions passed.
+-- `counting::slot_mask` meets its contract. The loop's invariant: the mask of the positions passed.
 -- Assumes nothing.
 use Prim.Native.Nat.{_≤_, _-_, _*_, _^_, _%_}
 use mathlib.Core.Path.{_≡_, sym, ap, _∙_}
@@ -10,8 +10,8 @@ use lib.Bits.{bitOr}
 use Rattle.fold.specs.Fold.{at-end}
 use Rattle.sets.specs.Mask.{mask-none, mask-set, mask-pass}
 use Rattle.model.specs.Model.{slotMask}
-use Rattle.valuing.proofs.slot_mask.Statement.{statement}
-use Rattle.valuing.proofs.slot_mask.Tie as tie
+use Rattle.counting.proofs.slot_mask.Statement.{statement}
+use Rattle.counting.proofs.slot_mask.Tie as tie
 
 abbrev Inv-loop : tie.InvT-loop
 Inv-loop slots n t mask₀ i₀ mask i = (i ≤ n) × (mask ≡ slotMask i slots t)

@@ -1,4 +1,4 @@
--- `valuing::is_revisiting` meets its contract. The loop's invariant: no train passed is a late supplier.
+-- `counting::is_revisiting` meets its contract. The loop's invariant: no train passed is a late supplier.
 -- Assumes nothing.
 use Prim.Native.Nat.{_≤_, _-_}
 use mathlib.Core.Path.{_≡_, sym, _∙_}
@@ -6,9 +6,9 @@ use mathlib.Core.Bool.{false}
 use borrow.Author.Needs.{needs}
 use Rattle.fold.specs.Fold.{some, no-some, none-next, none-end, some-found}
 use Rattle.model.specs.Model.{cell, lateSupplier, revisiting}
-use Rattle.valuing.specs.Given.{given-pair}
-use Rattle.valuing.proofs.is_revisiting.Statement.{statement}
-use Rattle.valuing.proofs.is_revisiting.Tie as tie
+use Rattle.counting.specs.Given.{given-pair}
+use Rattle.counting.proofs.is_revisiting.Statement.{statement}
+use Rattle.counting.proofs.is_revisiting.Tie as tie
 
 abbrev Inv-loop : tie.InvT-loop
 Inv-loop boxes width slots n i j₀ j = (j ≤ n) × (some j (lateSupplier (cell width boxes) slots i) ≡ false)
