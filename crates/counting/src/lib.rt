@@ -5,7 +5,8 @@
 ghost use mathlib.Core.Path.{_≡_};
 ghost use Prim.Native.Nat.{_≤_, _<_, _*_};
 ghost use lib.ListN.{length};
-ghost use Rattle.model.specs.Model.{cell, lateSupplier, revisiting, revisits, splitBoxes, splitsTo, splits, weighed, weighedCounts, slotMask};
+ghost use Rattle.fold.specs.Fold.{sum};
+ghost use Rattle.model.specs.Model.{cell, lateSupplier, revisiting, revisits, outsideBoxes, splits, weighed, weighedCounts, slotMask};
 ghost use Rattle.counting.specs.Given.{Given, GivenPair};
 ghost use Rattle.counting.specs.Counting.{outcomeOf, noOutcome};
 
@@ -81,26 +82,26 @@ pub fn count_revisits(boxes: &[u8], width: usize, slots: &[u8], n: usize) -> Rev
     Revisits(count)
 }
 
-// The boxes that train i receives from train j, where their slots differ.
-fn split_boxes(boxes: &[u8], width: usize, slots: &[u8], i: usize, j: usize) -> u64
-    requires { ⌜ GivenPair width (now boxes) (now slots) i j ⌝ }
-    ensures { λ r. ⌜ (r ≡ splitBoxes (cell width (now (boxes .entry))) (now (slots .entry)) i j) × (r ≤ 255) ⌝ }
+// The boxes that train i receives from train j, where j is not in slot t.
+fn outside_boxes(boxes: &[u8], width: usize, row: &[u8], t: u8, i: usize, j: usize) -> u64
+    requires { ⌜ GivenPair width (now boxes) (now row) i j ⌝ }
+    ensures { λ r. ⌜ (r ≡ outsideBoxes (cell width (now (boxes .entry))) (now (row .entry)) t i j) × (r ≤ 255) ⌝ }
 {
-    if slots[i] == slots[j] {
+    if t == row[j] {
         0
     } else {
         day::wide8(day::cell_at(boxes, width, i, j))
     }
 }
 
-// The split moves of the boxes that train i receives.
-fn splits_to(boxes: &[u8], width: usize, slots: &[u8], n: usize, i: usize) -> u64
-    requires { ⌜ Given n width (now boxes) (now slots) × (i < n) ⌝ }
-    ensures { λ r. ⌜ (r ≡ splitsTo n (cell width (now (boxes .entry))) (now (slots .entry)) i) × (r ≤ 16320) ⌝ }
+// The boxes that train i receives from outside slot t.
+pub fn boxes_outside(boxes: &[u8], width: usize, row: &[u8], n: usize, t: u8, i: usize) -> u64
+    requires { ⌜ Given n width (now boxes) (now row) × (i < n) ⌝ }
+    ensures { λ r. ⌜ (r ≡ sum n (outsideBoxes (cell width (now (boxes .entry))) (now (row .entry)) t i)) × (r ≤ 16320) ⌝ }
 {
     let mut total: u64 = 0;
     for j in 0..n {
-        total += split_boxes(boxes, width, slots, i, j);
+        total += outside_boxes(boxes, width, row, t, i, j);
     }
     total
 }
@@ -111,7 +112,7 @@ pub fn count_splits(boxes: &[u8], width: usize, slots: &[u8], n: usize) -> Split
 {
     let mut total: u64 = 0;
     for i in 0..n {
-        total += splits_to(boxes, width, slots, n, i);
+        total += boxes_outside(boxes, width, slots, n, slots[i], i);
     }
     Splits(total)
 }

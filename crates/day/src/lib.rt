@@ -7,7 +7,7 @@ ghost use mathlib.Core.List.{[], _∷_};
 ghost use Prim.Native.Nat.{_≤_, _<_, _*_};
 ghost use lib.ListN.{length};
 ghost use Rattle.fold.specs.Fold.{each};
-ghost use Rattle.model.specs.Model.{cell};
+ghost use Rattle.model.specs.Model.{cell, inTime};
 ghost use Rattle.model.specs.Cells.{InTable};
 ghost use Rattle.day.specs.Sound.{dayLimits, yard, headOf, dayFrom, range, between, within, headRanges, trainRanges, moveRanges, numberBefore, trainSound, unused, positionSound, pairSound, receiverSound, sound};
 
@@ -210,6 +210,14 @@ pub fn cell_at(table: &[u8], width: usize, i: usize, j: usize) -> u8
 {
     let at = i * width + j;
     table[at]
+}
+
+// Whether the window of train i holds slot t.
+pub fn is_in_time(first: &[u8], last: &[u8], i: usize, t: u8) -> bool
+    requires { ⌜ (i < length (now first)) × (i < length (now last)) ⌝ }
+    ensures { λ r. ⌜ r ≡ inTime (now (first .entry)) (now (last .entry)) i t ⌝ }
+{
+    (first[i] <= t) & (t <= last[i])
 }
 
 // Boxes pass between two different trains, and keep their limit.

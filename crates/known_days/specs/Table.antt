@@ -15,7 +15,7 @@ use Rattle.fold.specs.Table.{allPass, all-hold}
 use Rattle.fold.specs.Fold
 use Rattle.fold.specs.Fold.{sum, count, each, lowest}
 use Rattle.sets.specs.Mask.{mask}
-use Rattle.model.specs.Model.{Outcome, cost, allowed, precedes, lateSupplier, revisiting, revisits, splitBoxes, splitsTo, splits, weighed, inSlots, inWindow, load, roomy, slotMask, lower, bound, exceeds, overbooked}
+use Rattle.model.specs.Model.{Outcome, cost, allowed, precedes, lateSupplier, revisiting, revisits, splitBoxes, splitsTo, splits, weighed, inSlots, inWindow, load, roomy, slotMask, lower, bound, exceeds, overbooked, inTime, outsideBoxes}
 use Rattle.model.specs.Rows.{allRows}
 use Rattle.model.specs.Order.{byKey, pick}
 use Rattle.model.specs.BestOf.{bestOf}
@@ -24,7 +24,7 @@ use Rattle.day.specs.Answer.{Answer, gives, refuses}
 use Rattle.day.specs.Sound.{within, headRanges, trainRanges, shaped, sound, numberBefore, trainSound, unused, positionSound, pairSound, receiverSound}
 use Rattle.valuing.specs.Valuing.{valued, strays, overfull}
 use Rattle.planning.specs.Planning.{planned}
-use Rattle.procedures.specs.Procedures.{inTime, trackFree, waits, suits, earliest, comeTo, firstCome, waitingSupplier, outsideBoxes, priority, select, fillTo, servedTo, myopic}
+use Rattle.procedures.specs.Procedures.{trackFree, waits, suits, earliest, comeTo, firstCome, waitingSupplier, priority, select, fillTo, servedTo, myopic}
 use Rattle.baselines.specs.Baselines.{Comparison, against, compared}
 use Rattle.known_days.specs.Lines.{Line, values, best, later, refused, accepted, plans, compares, comparesIn, Holds, sameOutcome, sameInt, sameComparison, sameAnswer, isRow, isNone, isInterval, passes, line-holds}
 use Rattle.known_days.specs.Days.{move, dayOf, openDay, paperDay, numbered}

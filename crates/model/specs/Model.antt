@@ -64,6 +64,10 @@ revisiting n a row i = some n (lateSupplier a row i)
 unfoldable pub revisits : ℕ → (ℕ → ℕ → ℕ) → List ℕ → ℕ
 revisits n a row = count n (revisiting n a row)
 
+-- the boxes of i from j, where j is not in slot t
+unfoldable pub outsideBoxes : (ℕ → ℕ → ℕ) → List ℕ → ℕ → ℕ → ℕ → ℕ
+outsideBoxes a row t i j = cond (eqb t (slotOf row j)) 0 (a i j)
+
 -- z_ij A(i, j): the boxes of i from j, where their slots differ, (5)
 unfoldable pub splitBoxes : (ℕ → ℕ → ℕ) → List ℕ → ℕ → ℕ → ℕ
 splitBoxes a row i j = cond (eqb (slotOf row i) (slotOf row j)) 0 (a i j)
@@ -100,6 +104,10 @@ cost y row = outcome y row .cost
 -- position i has one of the slots 1 to T, (2)
 unfoldable pub inSlots : ℕ → List ℕ → ℕ → Bool
 inSlots slots row i = leb 1 (slotOf row i) && leb (slotOf row i) slots
+
+-- the window of train i holds slot t: e ≤ t ≤ l
+unfoldable pub inTime : List ℕ → List ℕ → ℕ → ℕ → Bool
+inTime first last i t = leb (getD first i 0) t && leb t (getD last i 0)
 
 -- e ≤ slot ≤ l at position i, (12)
 unfoldable pub inWindow : List ℕ → List ℕ → List ℕ → ℕ → Bool

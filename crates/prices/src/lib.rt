@@ -2,7 +2,7 @@
 // it has more trains than tracks.
 //
 // Proved: `fill_price` fills the first words of the lent slice with the entries of specs/Entries.antt, and leaves the words behind them as
-// they were. The functions take slices, a width and numbers, so that records of other sizes use them too. Assumes nothing.
+// they were. The table has an entry for each set, so n is at most 12. Assumes nothing.
 ghost use mathlib.Core.Path.{_≡_};
 ghost use Prim.Native.Nat.{ℕ, _+_, _*_, _^_, _≤_, _<_};
 ghost use lib.ListN.{length};

@@ -13,8 +13,8 @@ use lib.ListN.{set}
 use borrow.Author.Tests.{le-leb, lt-ltb, le-ltb}
 use Rattle.fold.specs.Fold.{some, sum}
 use Rattle.fold.specs.Counting.{le-or-lt}
-use Rattle.model.specs.Model.{weighed}
-use Rattle.procedures.specs.Procedures.{inTime, trackFree, suits, waits, earliest, comeTo, waitingSupplier, outsideBoxes, priority, select, fillTo, servedTo}
+use Rattle.model.specs.Model.{weighed, inTime, outsideBoxes}
+use Rattle.procedures.specs.Procedures.{trackFree, suits, waits, earliest, comeTo, waitingSupplier, priority, select, fillTo, servedTo}
 
 -- the test of slot t + 1, as the code asks it
 pub suits-is : (n tracks : ℕ) (first last row : List ℕ) (i t : ℕ) {a b : Bool} → a ≡ inTime first last i (t + 1) → b ≡ trackFree n tracks row (t + 1)

@@ -7,13 +7,9 @@ use Prim.Native.Nat.{ℕ, zero, suc}
 use lib.Dec.{leb, ltb, eqb}
 use lib.ListN.{getD, set, replicate}
 use Rattle.fold.specs.Fold.{bit, sum, some, lowest}
-use Rattle.model.specs.Model.{Yard, received, slotOf, supplies, load, weighed}
+use Rattle.model.specs.Model.{Yard, received, slotOf, supplies, load, weighed, inTime, outsideBoxes}
 
 -- ---- trains and slots
-
--- the window of train i holds slot t
-unfoldable pub inTime : List ℕ → List ℕ → ℕ → ℕ → Bool
-inTime first last i t = leb (getD first i 0) t && leb t (getD last i 0)
 
 -- a track of slot t is free
 unfoldable pub trackFree : ℕ → ℕ → List ℕ → ℕ → Bool
@@ -51,12 +47,9 @@ firstCome y = comeTo (y .trains) (y .tracks) (y .slots) (y .first) (y .last) (y 
 
 -- ---- myopic: slot after slot and track after track, the train that raises the objective least
 
--- a supplier that waits still; the boxes of i from j, where j is not in slot t
+-- a supplier that waits still
 unfoldable pub waitingSupplier : (ℕ → ℕ → ℕ) → List ℕ → ℕ → ℕ → Bool
 waitingSupplier a row i j = supplies a i j && waits row j
-
-unfoldable pub outsideBoxes : (ℕ → ℕ → ℕ) → List ℕ → ℕ → ℕ → ℕ → ℕ
-outsideBoxes a row t i j = cond (eqb (slotOf row j) t) 0 (a i j)
 
 module _ (n revisit split : ℕ) (a : ℕ → ℕ → ℕ) where
   -- what train i would add in slot t, (11): a revisit where one of its suppliers waits still, and its boxes from all suppliers outside

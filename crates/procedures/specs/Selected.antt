@@ -10,8 +10,9 @@ use native.Mathlib.Nat.{le-refl, eq-or-lt-of-le, le-of-suc-le-suc}
 use native.Mathlib.Omega.{arith}
 use lib.Dec.{T, leb, ltb, leb→le, ltb→lt}
 use borrow.Author.Tests.{le-leb, ltb-false}
+use Rattle.model.specs.Model.{inTime}
 use Rattle.fold.specs.Test.{of-true, of-false, clash, either-of, neither}
-use Rattle.procedures.specs.Procedures.{inTime, waits, priority, select}
+use Rattle.procedures.specs.Procedures.{waits, priority, select}
 
 module _ (n revisit split : ℕ) (a : ℕ → ℕ → ℕ) (first last row : List ℕ) (t : ℕ) where
   -- a train that waits and whose window holds the slot

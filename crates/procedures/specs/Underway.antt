@@ -15,9 +15,9 @@ use borrow.Author.Tests.{eq-eqb}
 use Rattle.fold.specs.Test.{of-true, both-of}
 use Rattle.fold.specs.Fold.{lowest-passes}
 use Rattle.fold.specs.Counting.{same-or, count-zero, count-more, count-le}
-use Rattle.model.specs.Model.{Yard, received, firstSlot, lastSlot, slotOf, load, allowed}
+use Rattle.model.specs.Model.{Yard, received, firstSlot, lastSlot, slotOf, load, allowed, inTime}
 use Rattle.model.specs.Rows.{is-allowed, both-le}
-use Rattle.procedures.specs.Procedures.{inTime, trackFree, suits, waits, earliest, takeEarliest, comeTo, firstCome, priority, select, serveNext, fillTo, servedTo, myopic}
+use Rattle.procedures.specs.Procedures.{trackFree, suits, waits, earliest, takeEarliest, comeTo, firstCome, priority, select, serveNext, fillTo, servedTo, myopic}
 
 pub record Underway (y : Yard) (row : List ℕ) : Type 0 where
   pub long : length row ≡ y .trains

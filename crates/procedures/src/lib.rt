@@ -7,19 +7,11 @@ ghost use Prim.Native.Nat.{_^_, _≤_, _<_};
 ghost use lib.IntN.{pos, _-ℤ_};
 ghost use lib.ListN.{length, replicate};
 ghost use Rattle.fold.specs.Fold.{sum, some};
-ghost use Rattle.model.specs.Model.{cell};
+ghost use Rattle.model.specs.Model.{cell, inTime, outsideBoxes};
 ghost use Rattle.counting.specs.Given.{Given, GivenPair};
-ghost use Rattle.procedures.specs.Procedures.{inTime, trackFree, leftOver, earliest, comeTo, waitingSupplier, outsideBoxes, priority, select, fillTo, servedTo};
+ghost use Rattle.procedures.specs.Procedures.{trackFree, leftOver, earliest, comeTo, waitingSupplier, priority, select, fillTo, servedTo};
 
 // ---- first come
-
-// Whether the window of train i holds slot t.
-fn is_in_time(first: &[u8], last: &[u8], i: usize, t: u8) -> bool
-    requires { ⌜ (i < length (now first)) × (i < length (now last)) ⌝ }
-    ensures { λ r. ⌜ r ≡ inTime (now (first .entry)) (now (last .entry)) i t ⌝ }
-{
-    (first[i] <= t) & (t <= last[i])
-}
 
 // Whether slot t has a track free.
 fn is_track_free(row: &[u8], n: usize, tracks: u32, t: u8) -> bool
@@ -43,7 +35,7 @@ fn earliest_slot(
     ensures { λ r. ⌜ r ≡ earliest n tracks slots (now (first .entry)) (now (last .entry)) (now (row .entry)) i ⌝ }
 {
     for t in 0..slots {
-        if is_in_time(first, last, i, t + 1) & is_track_free(row, n, tracks, t + 1) {
+        if day::is_in_time(first, last, i, t + 1) & is_track_free(row, n, tracks, t + 1) {
             return t;
         }
     }
@@ -86,30 +78,6 @@ fn has_waiting_supplier(boxes: &[u8], width: usize, row: &[u8], n: usize, i: usi
     false
 }
 
-// The boxes that train i receives from train j, where j is not in slot t.
-fn outside_boxes(boxes: &[u8], width: usize, row: &[u8], t: u8, i: usize, j: usize) -> u64
-    requires { ⌜ GivenPair width (now boxes) (now row) i j ⌝ }
-    ensures { λ r. ⌜ (r ≡ outsideBoxes (cell width (now (boxes .entry))) (now (row .entry)) t i j) × (r ≤ 255) ⌝ }
-{
-    if row[j] == t {
-        0
-    } else {
-        day::wide8(day::cell_at(boxes, width, i, j))
-    }
-}
-
-// The boxes that train i receives from outside slot t.
-fn boxes_outside(boxes: &[u8], width: usize, row: &[u8], n: usize, t: u8, i: usize) -> u64
-    requires { ⌜ Given n width (now boxes) (now row) × (i < n) ⌝ }
-    ensures { λ r. ⌜ (r ≡ sum n (outsideBoxes (cell width (now (boxes .entry))) (now (row .entry)) t i)) × (r ≤ 16320) ⌝ }
-{
-    let mut total: u64 = 0;
-    for j in 0..n {
-        total += outside_boxes(boxes, width, row, t, i, j);
-    }
-    total
-}
-
 // What train i would add in slot t, equation (11).
 fn priority_of(
     boxes: &[u8],
@@ -124,7 +92,7 @@ fn priority_of(
     requires { ⌜ Given n width (now boxes) (now row) × (i < n) ⌝ }
     ensures { λ r. ⌜ r ≡ priority n revisit split (cell width (now (boxes .entry))) (now (row .entry)) t i ⌝ }
 {
-    let splits = day::wide32(split) * boxes_outside(boxes, width, row, n, t, i);
+    let splits = day::wide32(split) * counting::boxes_outside(boxes, width, row, n, t, i);
     if has_waiting_supplier(boxes, width, row, n, i) {
         day::wide32(revisit) + splits
     } else {
@@ -150,7 +118,7 @@ fn select_train(
     let mut chosen = n;
     let mut least: u64 = 0;
     for k in 0..n {
-        if (row[k] == 0) & is_in_time(first, last, k, t) {
+        if (row[k] == 0) & day::is_in_time(first, last, k, t) {
             let p = priority_of(boxes, width, row, n, revisit, split, t, k);
             if (n <= chosen) | (p < least) {
                 chosen = k;

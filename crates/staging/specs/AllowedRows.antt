@@ -12,7 +12,7 @@ use borrow.Author.Tests.{eq-eqb}
 use Rattle.fold.specs.Test.{of-true, both, both-of}
 use Rattle.sets.specs.Mask.{has, has-mask, mask-lt, ones-mask}
 use Rattle.sets.specs.Subset.{Sub, subset, sub-mask}
-use Rattle.model.specs.Model.{Yard, firstSlot, lastSlot, slotOf, load, allowed}
+use Rattle.model.specs.Model.{Yard, firstSlot, lastSlot, slotOf, load, allowed, inTime}
 use Rattle.model.specs.Rows.{both-le, le-both, allowed-is, is-allowed}
 use Rattle.sets.specs.Rest.{sub-has}
 use Rattle.optimum.specs.Rows.{stageSet, Row}
@@ -28,11 +28,11 @@ DayRow y row = Row (servable y) (y .trains) (y .slots) row
 
 module _ (y : Yard) where
   pub has-open : (t i : ℕ) → i < y .trains → has (openIn (y .trains) (y .first) (y .last) t) i ≡ (leb (firstSlot y i) t && leb t (lastSlot y i))
-  unfolding openIn
+  unfolding openIn inTime
   has-open t i l = has-mask (y .trains) (λ i. leb (firstSlot y i) t && leb t (lastSlot y i)) i l
 
   pub open-lt : (t : ℕ) → openIn (y .trains) (y .first) (y .last) t < 2 ^ y .trains
-  unfolding openIn
+  unfolding openIn inTime
   open-lt t = mask-lt (y .trains) λ i. leb (firstSlot y i) t && leb t (lastSlot y i)
 
   module _ (row : List ℕ) where
@@ -44,7 +44,7 @@ module _ (y : Yard) where
     -- a slot's set lies in the windows exactly where each of its trains does
     within-windows : (t : ℕ) → ((i : ℕ) → i < y .trains → slotOf row i ≡ t → InWindow y t i)
         → Sub (stageSet (y .trains) row t) (openIn (y .trains) (y .first) (y .last) t)
-    unfolding openIn
+    unfolding openIn inTime
     within-windows t h =
         sub-mask (y .trains) (λ i. eqb (slotOf row i) t) (λ i. leb (firstSlot y i) t && leb t (lastSlot y i))
         (λ i l e. le-both (firstSlot y i) t t (lastSlot y i) (h i l (eqb→eq (slotOf row i) t e)))

@@ -11,7 +11,7 @@ use lib.ListN.{getD}
 use Rattle.fold.specs.Fold.{sum, some}
 use Rattle.sets.specs.Mask.{has, mask}
 use Rattle.sets.specs.Subset.{subset}
-use Rattle.model.specs.Model.{Yard, received, supplies}
+use Rattle.model.specs.Model.{Yard, received, supplies, inTime}
 use Rattle.optimum.specs.Schedules.{Test, Contribution}
 
 -- ---- of n trains that receive a i j boxes from each other
@@ -26,7 +26,7 @@ fromOutside n a s = sum n λ i. cond (has s i) (sum n λ j. cond (has s j) 0 (a 
 
 -- the trains whose windows hold slot t
 unfoldable pub openIn : ℕ → List ℕ → List ℕ → ℕ → ℕ
-openIn n first last t = mask n λ i. leb (getD first i 0) t && leb t (getD last i 0)
+openIn n first last t = mask n λ i. inTime first last i t
 
 -- ---- the stages of a day
 

@@ -2,8 +2,7 @@
 // from 0, is in it where its binary digit i is 1.
 //
 // Proved: each call fills the first words of the lent slice with the entries of specs/Entries.antt and of `staging`, and leaves the
-// words behind them as they were. The functions take slices, a width and numbers, so that records of other sizes use them too.
-// Assumes nothing.
+// words behind them as they were. The tables have an entry for each set, so n is at most 12. Assumes nothing.
 ghost use mathlib.Core.Path.{_≡_};
 ghost use Prim.Native.Nat.{ℕ, suc, _+_, _^_, _≤_, _<_};
 ghost use lib.ListN.{length};
@@ -86,7 +85,7 @@ fn open_in(first: &[u8], last: &[u8], n: usize, t: u8) -> usize
 {
     let mut mask: usize = 0;
     for i in 0..n {
-        if (first[i] <= t) & (t <= last[i]) {
+        if day::is_in_time(first, last, i, t) {
             mask = mask | (1usize << i);
         }
     }

@@ -34,7 +34,7 @@ fn is_in_window(first: &[u8], last: &[u8], slots: &[u8], i: usize) -> bool
     requires { ⌜ (i < length (now first)) × (i < length (now last)) × (i < length (now slots)) ⌝ }
     ensures { λ r. ⌜ r ≡ inWindow (now (first .entry)) (now (last .entry)) (now (slots .entry)) i ⌝ }
 {
-    (first[i] <= slots[i]) & (slots[i] <= last[i])
+    day::is_in_time(first, last, i, slots[i])
 }
 
 // The lowest position whose slot lies outside its window, or n.

@@ -6,6 +6,7 @@ use borrow.Author.Needs.{needs}
 use native.Mathlib.Omega.{arith}
 use Rattle.fold.specs.Fold.{sum, sum-none, sum-next, at-end}
 use Rattle.model.specs.Model.{cell, splitsTo, splits}
+use Rattle.counting.specs.Counting.{split-outside}
 use Rattle.counting.proofs.count_splits.Statement.{statement}
 use Rattle.counting.proofs.count_splits.Tie as tie
 
@@ -18,8 +19,11 @@ abbrev μ-loop : tie.MeasureT-loop
 loop-holds : tie.Need-loop-holds Inv-loop μ-loop
 loop-holds c = (search needs, sym (sum-none _), search needs)
 
-splits-to-requires : tie.Need-splits-to-requires Inv-loop μ-loop
-splits-to-requires c κs = search needs
+shared-slice-read-boxes-outside : tie.Need-shared-slice-read-boxes-outside Inv-loop μ-loop
+shared-slice-read-boxes-outside c = search needs
+
+boxes-outside-requires : tie.Need-boxes-outside-requires Inv-loop μ-loop
+boxes-outside-requires c κs = search needs
 
 add-total : tie.Need-add-total Inv-loop μ-loop
 add-total c = omega arith
@@ -32,9 +36,11 @@ loop-less c = search needs
 
 loop-again : tie.Need-loop-again Inv-loop μ-loop
 loop-again c =
-    let a = c .before .before .before .before .before .args in
-    let next = sum-next (c .before .before .loop .i) (splitsTo (a .n) (cell (a .width) (a .boxes .now)) (a .slots .now)) in
-    omega arith
+    let l = c .before .before .before in
+    let a = l .before .before .before .args in
+    let next = sum-next (l .loop .i) (splitsTo (a .n) (cell (a .width) (a .boxes .now)) (a .slots .now)) in
+    let own = split-outside (a .n) (cell (a .width) (a .boxes .now)) (a .slots .now) (l .loop .i) in
+    omega (arith, next, own, c .boxes-outside .ensures .0)
 
 returns : tie.Need-returns Inv-loop μ-loop
 unfolding splits
@@ -51,7 +57,8 @@ count-splits-spec =
     Inv-loop
     μ-loop
     loop-holds
-    splits-to-requires
+    shared-slice-read-boxes-outside
+    boxes-outside-requires
     add-total
     add-i
     loop-less

@@ -22,11 +22,8 @@ loop-holds : tie.Need-loop-holds Inv-loop μ-loop
 unfolding openIn
 loop-holds c = (search needs, sym (mask-none _))
 
-shared-slice-read-if1 : tie.Need-shared-slice-read-if1 Inv-loop μ-loop
-shared-slice-read-if1 c = search needs
-
-shared-slice-read-if1-2 : tie.Need-shared-slice-read-if1-2 Inv-loop μ-loop
-shared-slice-read-if1-2 c = search needs
+is-in-time-requires : tie.Need-is-in-time-requires Inv-loop μ-loop
+is-in-time-requires c κs = search needs
 
 shl-mask : tie.Need-shl-mask Inv-loop μ-loop
 shl-mask c = search needs
@@ -40,15 +37,16 @@ loop-less c = search needs
 loop-again : tie.Need-loop-again Inv-loop μ-loop
 unfolding openIn
 loop-again c =
-    let b = c .before .before .before .before in
+    let b = c .before .before .before in
+    let asked = c .before .is-in-time .ensures in
     ⊎-elim
-    (λ w. (search needs, w .1 ∙ ap (λ m. bitOr m (1 * 2 ^ b .loop .i % 2 ^ 64)) (b .loop .inv .1) ∙ mask-set 64 (b .loop .i) _ (omega arith) (w .0 .taken)))
-    (λ w. (search needs, w .1 ∙ b .loop .inv .1 ∙ mask-pass (b .loop .i) _ (w .0 .left)))
+    (λ w. (search needs, w .1 ∙ ap (λ m. bitOr m (1 * 2 ^ b .loop .i % 2 ^ 64)) (b .loop .inv .1) ∙ mask-set 64 (b .loop .i) _ (omega arith) (sym asked ∙ w .0 .taken)))
+    (λ w. (search needs, w .1 ∙ b .loop .inv .1 ∙ mask-pass (b .loop .i) _ (sym asked ∙ w .0 .left)))
     (c .if1 .came)
 
 returns : tie.Need-returns Inv-loop μ-loop
 returns c =
-    let a = c .before .before .args in
+    let a = c .before .before .before .before .args in
     c .before .loop .inv .1 ∙ at-end (λ i. openIn i (a .first .now) (a .last .now) (a .t)) _ _ (c .before .loop .inv .0) (c .loop-test .left)
 
 pub open-in-spec : {M : Type 1} → statement M
@@ -58,8 +56,7 @@ open-in-spec =
     Inv-loop
     μ-loop
     loop-holds
-    shared-slice-read-if1
-    shared-slice-read-if1-2
+    is-in-time-requires
     shl-mask
     add-i
     loop-less

@@ -1,9 +1,9 @@
--- `procedures::is_in_time` meets its contract. The test is the definition's.
+-- `day::is_in_time` meets its contract. The test is the definition's.
 -- Assumes nothing.
-use Rattle.procedures.specs.Procedures.{inTime}
+use Rattle.model.specs.Model.{inTime}
 use borrow.Author.Needs.{needs}
-use Rattle.procedures.proofs.is_in_time.Statement.{statement}
-use Rattle.procedures.proofs.is_in_time.Tie as tie
+use Rattle.day.proofs.is_in_time.Statement.{statement}
+use Rattle.day.proofs.is_in_time.Tie as tie
 
 shared-slice-read-result : tie.Need-shared-slice-read-result
 shared-slice-read-result c = search needs

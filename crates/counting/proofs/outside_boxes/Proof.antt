@@ -1,11 +1,11 @@
--- `procedures::outside_boxes` meets its contract. By the two cases of the test that j is in the slot.
+-- `counting::outside_boxes` meets its contract. By the two cases of the test that j is in the slot.
 -- Assumes nothing.
 use mathlib.Core.Path.{_∙_}
 use borrow.Author.Tests.{eq-eqb, ne-eqb}
-use Rattle.procedures.specs.Procedures.{outsideBoxes}
+use Rattle.model.specs.Model.{outsideBoxes}
 use borrow.Author.Needs.{needs}
-use Rattle.procedures.proofs.outside_boxes.Statement.{statement}
-use Rattle.procedures.proofs.outside_boxes.Tie as tie
+use Rattle.counting.proofs.outside_boxes.Statement.{statement}
+use Rattle.counting.proofs.outside_boxes.Tie as tie
 
 shared-slice-read-if1 : tie.Need-shared-slice-read-if1
 shared-slice-read-if1 c = c .before .before .before .pre .from

@@ -1,15 +1,14 @@
--- `procedures::boxes_outside` meets its contract. The loop's invariant: the sum of the boxes from the trains passed, at most 255 for each.
+-- `counting::boxes_outside` meets its contract. The loop's invariant: the sum of the boxes from the trains passed, at most 255 for each.
 -- Assumes nothing.
 use mathlib.Core.Path.{_≡_, sym, _∙_}
 use Prim.Native.Nat.{_≤_, _-_, _*_}
 use native.Mathlib.Omega.{arith}
 use Rattle.fold.specs.Fold.{sum, sum-none, sum-next, at-end}
-use Rattle.model.specs.Model.{cell}
+use Rattle.model.specs.Model.{cell, outsideBoxes}
 use Rattle.counting.specs.Given.{given-pair}
-use Rattle.procedures.specs.Procedures.{outsideBoxes}
 use borrow.Author.Needs.{needs}
-use Rattle.procedures.proofs.boxes_outside.Statement.{statement}
-use Rattle.procedures.proofs.boxes_outside.Tie as tie
+use Rattle.counting.proofs.boxes_outside.Statement.{statement}
+use Rattle.counting.proofs.boxes_outside.Tie as tie
 
 abbrev Inv-loop : tie.InvT-loop
 Inv-loop boxes width row n t i total₀ j₀ total j = (j ≤ n) × (total ≡ sum j (outsideBoxes (cell width boxes) row t i)) × (total ≤ 255 * j)
