@@ -3,7 +3,8 @@
 --   plans-best     where an allowed row exists the answer is the best one's numbers, its slots stand in the row, and their count is told;
 --   plans-nine     where none exists it is 9 with the first overbooked interval, and the row stays.
 -- For every text and all lent memory:
---   text-memory    after 1 to 7 and 10 nothing lent has changed; after 9 the row has not; no slots are told with any refusal.
+--   text-memory    after 1 to 7 and 10 nothing lent has changed; after 9 the row has not; words beyond 2^n and T × 2^n never do; no slots are
+--                  told with any refusal.
 -- Assumes nothing.
 use mathlib.Core.Path.{_≡_, refl, sym, ap, _∙_, subst}
 use mathlib.Core.Bool.{true}
@@ -12,14 +13,15 @@ use mathlib.Core.Logic.{_⊎_, inl, inr}
 use mathlib.Core.Option.{Option, none, some}
 use Prim.Native.Nat.{ℕ, _*_, _^_, _≤_}
 use native.Mathlib.Omega.{arith}
-use lib.Dec.{T}
+use lib.Dec.{T, leb}
 use lib.ListN.{length, drop}
 use borrow.Author.Tests.{le-leb}
 use Rattle.model.specs.Model.{Yard, Outcome, outcome, boundInside, Best, NoRow, FirstOverbooked}
 use Rattle.model.specs.Rows.{allowed-is}
 use Rattle.model.specs.BestOf.{bestOf, is-best, is-none}
 use Rattle.model.specs.Overbooked.{Interval, firstOverbooked, SaysFirst, first-says}
-use Rattle.day.specs.Answer.{Answer, gives, refuses}
+use Rattle.day.specs.Answer.{Answer, gives, refuses, must, checked}
+use Rattle.day.specs.AnswerLaws.{gives-same, checked-gives}
 use Rattle.day.specs.Sound.{sound}
 use Rattle.day.specs.SoundLaws.{sound-is}
 use Rattle.day.specs.declared.Limits.{Limits}
@@ -103,11 +105,24 @@ module _ (l : Limits) (text cost choice row : List ℕ) (size : ℕ) (costAfter 
     -- after 9 the row has not
     pub rowKept : (carries : List ℕ) → planFor l text (length cost) (length choice) (length row) size ≡ refuses 9 carries
         → rowFor l text (length cost) (length choice) size row ≡ row
+    -- words beyond the first 2^n and the first T × 2^n are unchanged
+    pub beyond : (y : Yard) → readDay l text ≡ gives y
+        → (drop (2 ^ y .trains) costAfter ≡ drop (2 ^ y .trains) cost) × (drop (y .slots * 2 ^ y .trains) choiceAfter ≡ drop (y .slots * 2 ^ y .trains) choice)
+    -- no slots are told with a refusal
+    pub none : (k : ℕ) (carries : List ℕ) → planFor l text (length cost) (length choice) (length row) size ≡ refuses k carries
+        → slotsFor l text (length cost) (length choice) (length row) size ≡ 0
 
   pub text-memory : TextMemory
-  unfolding planFor rowFor openFor
+  unfolding planFor rowFor openFor slotsFor
   text-memory = go (dayFor l text size) refl
     where
+      -- a day for a caller with room is the one read
+      same : (a : Answer Yard) (y z : Yard) → a ≡ gives y → checked (must (leb 3 size) 10 (0 ∷ []) ∷ []) a ≡ gives z → y ≡ z
+      same a y z e f = gives-same (sym e ∙ checked-gives (must (leb 3 size) 10 (0 ∷ []) ∷ []) a z f .1)
+
+      untold : (y : Yard) (a : Answer Outcome) (k : ℕ) (carries : List ℕ) → a ≡ refuses k carries → slotsIn y a ≡ 0
+      untold y a k carries e = ap (slotsIn y) e
+
       two : {k : ℕ} → (k ≡ 8) ⊎ ((k ≡ 10) ⊎ (k ≡ 9)) → (k ≡ 9 → ⊥) → (k ≡ 8) ⊎ (k ≡ 10)
       two (inl a) n = inl a
       two (inr (inl b)) n = inr b
@@ -117,6 +132,8 @@ module _ (l : Limits) (text cost choice row : List ℕ) (size : ℕ) (costAfter 
       go (refuses k carries) e = record {
         unchanged = λ m values q n. (rw e at contractCost, (rw e at contractChoice, rw e));
         rowKept = λ values q. rw e;
+        beyond = λ y r. (ap (drop (2 ^ y .trains)) (rw e at contractCost), ap (drop (y .slots * 2 ^ y .trains)) (rw e at contractChoice));
+        none = λ m values q. rw e;
       }
       go (gives y) e =
           let answer = planned l y (length cost) (length choice) (length row) in
@@ -127,4 +144,6 @@ module _ (l : Limits) (text cost choice row : List ℕ) (size : ℕ) (costAfter 
                 let u = m .unchanged r (two (refuses-only l y (length cost) (length choice) (length row) r) n) in
                 (u .0, (u .1 .0, rw e (u .1 .1)));
             rowKept = λ values q. let r : answer ≡ refuses 9 values = rw e at q in rw e (m .rowKept r);
+            beyond = λ z r. let is : z ≡ y = same (readDay l text) z y r e in rw is (m .costBeyond, m .choiceBeyond);
+            none = λ k values q. let r : answer ≡ refuses k values = rw e at q in rw e (untold y answer k values r);
           }

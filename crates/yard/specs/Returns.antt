@@ -31,7 +31,7 @@ use Rattle.dayfile.specs.Reading.{readDay}
 use Rattle.dayfile.specs.RoundTrip.{read-sound}
 use Rattle.dayfile.specs.Refused.{Lined, read-lined}
 use Rattle.valuing.specs.Valuing.{valued}
-use Rattle.valuing.specs.Laws.{SlotRefusal, valued-only, valued-allowed, allowed-valued}
+use Rattle.valuing.specs.Laws.{valued-only, valued-allowed, allowed-valued}
 use Rattle.feasibility.specs.Verdict.{SomeRow}
 use Rattle.planning.specs.Planning.{planned}
 use Rattle.planning.specs.Answers.{areas-suffice, planned-only, from-best}
