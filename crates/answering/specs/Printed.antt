@@ -19,7 +19,7 @@ use Rattle.day.specs.SoundLaws.{sound-is}
 use Rattle.dayfile.specs.Reading.{readDay}
 use Rattle.dayfile.specs.RoundTrip.{read-sound}
 use Rattle.dayfile.specs.Refused.{Lined, read-lined}
-use Rattle.feasibility.specs.Verdict.{none-row}
+use Rattle.feasibility.specs.Verdict.{no-row-over}
 use Rattle.planning.specs.Planning.{carriedBy}
 use Rattle.planfile.specs.PlanText.{planLines}
 use Rattle.answering.specs.Answering.{refusalText, dayReply, reply, answerText}
@@ -34,11 +34,9 @@ pub data Printed (text bytes : List ℕ) : Type 0 where
 module _ (text : List ℕ) where
   printed-day : (y : Yard) → readDay dayLimits text ≡ gives y → (b : Option (List ℕ)) → bestOf y ≡ b → Printed text (dayReply y b)
   printed-day y r (some row) e = plan y row r (is-best y row e) refl
-  printed-day y r none e = go (firstOverbooked y) refl
-    where
-      go : (w : Option Interval) → firstOverbooked y ≡ w → Printed text (refusalText 9 (carriedBy y (firstOverbooked y)))
-      go none f = absurd (let (row, a) = none-row y (sound-is dayLimits y (read-sound dayLimits text y r) .windows) f in is-none y e row a)
-      go (some w) f = overbooked y (w .first) (w .last) r (is-none y e) (subst (SaysFirst y) f (first-says y)) (ap (λ i. refusalText 9 (carriedBy y i)) f)
+  printed-day y r none e =
+      let (w, f) = no-row-over y (sound-is dayLimits y (read-sound dayLimits text y r) .windows) (is-none y e) in
+      overbooked y (w .first) (w .last) r (is-none y e) (subst (SaysFirst y) f (first-says y)) (ap (λ i. refusalText 9 (carriedBy y i)) f)
 
   printed-by : (a : Answer Yard) → readDay dayLimits text ≡ a → Printed text (reply a)
   printed-by (gives y) e = printed-day y e (bestOf y) refl

@@ -8,13 +8,13 @@ use native.Mathlib.Omega.{arith}
 use lib.Dec.{T}
 use lib.IntN.{ℤ, pos, _-ℤ_}
 use lib.ListN.{length, take, drop, replicate, length-append}
-use lib.Seq.{take-append-seam}
 use borrow.Author.Tests.{eq-eqb, ne-eqb}
 use Rattle.model.specs.Model.{Yard, Outcome, outcome, cost}
 use Rattle.day.specs.Answer.{Answer, gives, refuses}
 use Rattle.day.specs.Sound.{dayLimits, sound}
 use Rattle.day.specs.Most.{cost-most}
 use Rattle.day.specs.declared.Limits.{Limits}
+use Rattle.fold.specs.Listed.{take-front}
 use Rattle.counting.specs.Counting.{outcomeOf}
 use Rattle.counting.specs.declared.Value.{Value}
 use Rattle.planning.specs.Planning.{planned}
@@ -76,11 +76,8 @@ zeros-front n h = go n 12 h
     go (suc n) (suc m) h = ap (λ (l : List ℕ). 0 ∷ l) (go n m (omega arith))
 
 module _ (n : ℕ) (row : List ℕ) (long : length row ≡ n) where
-  pub front-is : take n (row ++ drop n zeros) ≡ row
-  front-is = subst (λ k. take k (row ++ drop n zeros) ≡ row) long (take-append-seam row (drop n zeros))
-
   pub front-long : n ≡ length (take n (row ++ drop n zeros))
-  front-long = sym (ap length front-is ∙ long)
+  front-long = sym (ap length (take-front row (drop n zeros) long) ∙ long)
 
   pub front-fits : n ≤ length (row ++ drop n zeros)
   front-fits = omega (arith, length-append row (drop n zeros), long)

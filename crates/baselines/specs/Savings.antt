@@ -22,6 +22,7 @@ use Rattle.day.specs.Answer.{Answer, gives, refuses, code, onGiven}
 use Rattle.day.specs.AnswerLaws.{gives-same, checked-gives, given-before, Only, only-given, only-checked, only-wider}
 use Rattle.day.specs.Sound.{sound}
 use Rattle.day.specs.declared.Limits.{Limits}
+use Rattle.counting.specs.Counting.{figures}
 use Rattle.planning.specs.Planning.{costWords, choiceWords, planned, begins, openWords, Stays}
 use Rattle.planning.specs.Answers.{from-best, refuses-only, planned-only}
 use Rattle.procedures.specs.Procedures.{leftOver}
@@ -88,7 +89,7 @@ module _ (l : Limits) (y : Yard) (costs choices : ℕ) where
       λ best e. only-checked (λ k carries. (k ≡ 9) ⊎ (k ≡ 14)) (servedChecks y row) (gives record { outcome = outcome y row; saving = pos (cost y row) -ℤ pos (best .cost) }) (inr refl, tt) tt
 
   pub refused-zeros : (row : List ℕ) (k : ℕ) (carries : List ℕ) → compared l y row costs choices ≡ refuses k carries
-      → comparisonOrZero (compared l y row costs choices) ≡ record { outcome = record { revisits = 0; splits = 0; cost = 0 }; saving = pos 0 }
+      → comparisonOrZero (compared l y row costs choices) ≡ record { outcome = figures 0 0 0; saving = pos 0 }
   refused-zeros row k carries e = ap comparisonOrZero e
 
 -- ---- the two areas after the call

@@ -11,7 +11,7 @@ use Rattle.sets.specs.Subset.{Sub}
 use Rattle.optimum.specs.Workspace.{at}
 use Rattle.optimum.specs.Least.{Cell}
 use Rattle.optimum.specs.Stages.{cell, tab, choice}
-use Rattle.staging.specs.Tables.{barred, fromTables, costFromTables, noCost}
+use Rattle.staging.specs.Tables.{Tables, barred, noCost, fromTables, costFromTables, keyFromTables}
 
 -- what a slot costs in which s is served and `rest` remains, where the split moves of s cost `splits`: with the price of s, and what s leaves
 -- of r, staging's `costFromTables`
@@ -19,37 +19,36 @@ abbrev pub slotSum : List ℕ → List ℕ → ℕ → ℕ → ℕ → ℕ
 slotSum need late splits rest s = at late (bitAnd s (at need rest)) + splits
 
 -- tables for the sets below `size` and for the first `slots` slots
-pub record Given (size slots : ℕ) (need late price opens : List ℕ) : Type 0 where
+pub record Given (size slots : ℕ) (x : Tables) : Type 0 where
   pub sets : (0 < size) × (size ≤ 4096)
   pub stages : (0 < slots) × (slots ≤ 8)
-  pub needs : size ≤ length need
-  pub lates : size ≤ length late
-  pub prices : size ≤ length price
-  pub opened : slots ≤ length opens
+  pub needs : size ≤ length (x .need)
+  pub lates : size ≤ length (x .late)
+  pub prices : size ≤ length (x .price)
+  pub opened : slots ≤ length (x .opens)
   -- what a slot costs in which a set is served that is not barred
-  pub fits : (t r s : ℕ) → r < size → Sub s r → at price s < barred → costFromTables need late price t r s < 2 ^ 32
+  pub fits : (t r s : ℕ) → r < size → Sub s r → at (x .price) s < barred → costFromTables x t r s < 2 ^ 32
 
 -- values that a cell of slot j + 1 reads where r remains: of what its choices leave, none, or what at most 8 slots come to
-pub record Rests (price opens cost : List ℕ) (j r : ℕ) : Type 0 where
+pub record Rests (x : Tables) (cost : List ℕ) (j r : ℕ) : Type 0 where
   pub long : r < length cost
-  pub low : (s : ℕ) → Sub s r → T (fromTables price opens (suc j) r s) → at cost (r - s) < noCost → at cost (r - s) ≤ 8 * 2 ^ 32
+  pub low : (s : ℕ) → Sub s r → T (fromTables x (suc j) r s) → at cost (r - s) < noCost → at cost (r - s) ≤ 8 * 2 ^ 32
 
 -- the cell of stage j + 1, where r remains and `cost` holds the values of the next stage
-abbrev pub cellFrom : List ℕ → List ℕ → List ℕ → List ℕ → List ℕ → ℕ → ℕ → Cell
-cellFrom need late price opens cost j r = cell (fromTables price opens) (costFromTables need late price) noCost (at cost) (suc j) r
+abbrev pub cellFrom : Tables → List ℕ → ℕ → ℕ → Cell
+cellFrom x cost j r = cell (fromTables x) (keyFromTables x) noCost (at cost) (suc j) r
 
 -- the cell of stage j + 1, where r remains and no stage is left behind it
-abbrev pub lastFrom : List ℕ → List ℕ → List ℕ → List ℕ → ℕ → ℕ → Cell
-lastFrom need late price opens j r =
+abbrev pub lastFrom : Tables → ℕ → ℕ → Cell
+lastFrom x j r =
     record {
-      value = tab (fromTables price opens) (costFromTables need late price) noCost 1 (suc j) r;
-      set = choice (fromTables price opens) (costFromTables need late price) noCost 1 (suc j) r;
+      value = tab (fromTables x) (keyFromTables x) noCost 1 (suc j) r;
+      set = choice (fromTables x) (keyFromTables x) noCost 1 (suc j) r;
     }
 
 -- what is given for more sets and slots is given for fewer
-pub given-less : {size slots : ℕ} {need late price opens : List ℕ} (x j : ℕ) → Given size slots need late price opens → (0 < x) × (x ≤ size) → (0 < j) × (j ≤ slots)
-    → Given x j need late price opens
-given-less x j g a b =
+pub given-less : {size slots : ℕ} {x : Tables} (m j : ℕ) → Given size slots x → (0 < m) × (m ≤ size) → (0 < j) × (j ≤ slots) → Given m j x
+given-less m j g a b =
     record {
       sets = (a .0, omega (arith, g .sets));
       stages = (b .0, omega (arith, g .stages));

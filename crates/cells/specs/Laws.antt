@@ -1,7 +1,7 @@
 -- The test and the contribution from the tables (staging's Tables.antt), as the loops use them: at stage j + 1 the test is that the price
 -- is not barred and the set within the open set of index j; a contribution fits 32 bits; the cell of the last stage.
 -- Assumes nothing.
-use mathlib.Core.Path.{_≡_, sym, ap, ap₂, _∙_, subst}
+use mathlib.Core.Path.{_≡_, refl, sym, ap, ap₂, _∙_, subst}
 use mathlib.Core.Bool.{_&&_}
 use mathlib.Core.List.{List}
 use Prim.Native.Nat.{ℕ, suc, _-_, _^_, _<_}
@@ -13,45 +13,54 @@ use Rattle.fold.specs.Test.{both-of}
 use Rattle.sets.specs.Subset.{Sub, subset, sub-refl}
 use Rattle.optimum.specs.Workspace.{at}
 use Rattle.optimum.specs.Direct.{last-whole}
-use Rattle.staging.specs.Tables.{barred, fromTables, costFromTables, noCost}
+use Rattle.staging.specs.Tables.{Tables, barred, noCost, fromTables, costFromTables, keyFromTables}
 use Rattle.cells.specs.Given.{slotSum, Given, lastFrom}
 
 -- ---- the test
 
-module _ (price opens : List ℕ) (j r s : ℕ) where
+module _ (x : Tables) (j r s : ℕ) where
   index : suc j - 1 ≡ j
   index = omega arith
 
-  pub test-reads : fromTables price opens (suc j) r s ≡ (ltb (at price s) barred && subset s (at opens j))
-  test-reads = ap (λ x. ltb (at price s) barred && subset s (at opens x)) index
+  pub test-reads : fromTables x (suc j) r s ≡ (ltb (at (x .price) s) barred && subset s (at (x .opens) j))
+  unfolding fromTables
+  test-reads = ap (λ k. ltb (at (x .price) s) barred && subset s (at (x .opens) k)) index
 
-  pub may-serve : at price s < barred → Sub s (at opens j) → T (fromTables price opens (suc j) r s)
+  pub may-serve : at (x .price) s < barred → Sub s (at (x .opens) j) → T (fromTables x (suc j) r s)
+  unfolding fromTables
   may-serve l h =
-      subst T (sym (ap₂ _&&_ (lt-ltb (at price s) barred l) (eq-eqb (bitAnd s (at opens (suc j - 1))) s (ap (λ x. bitAnd s (at opens x)) index ∙ h)))) tt
+      subst T (sym (ap₂ _&&_ (lt-ltb (at (x .price) s) barred l) (eq-eqb (bitAnd s (at (x .opens) (suc j - 1))) s (ap (λ k. bitAnd s (at (x .opens) k)) index ∙ h)))) tt
 
-  pub serve-open : T (fromTables price opens (suc j) r s) → Sub s (at opens j)
+  pub serve-open : T (fromTables x (suc j) r s) → Sub s (at (x .opens) j)
+  unfolding fromTables
   serve-open h =
-      ap (λ x. bitAnd s (at opens x)) (sym index)
-      ∙ eqb→eq (bitAnd s (at opens (suc j - 1))) s (both-of (ltb (at price s) barred) (subset s (at opens (suc j - 1))) h .1)
+      ap (λ k. bitAnd s (at (x .opens) k)) (sym index)
+      ∙ eqb→eq (bitAnd s (at (x .opens) (suc j - 1))) s (both-of (ltb (at (x .price) s) barred) (subset s (at (x .opens) (suc j - 1))) h .1)
 
-pub serve-priced : (price opens : List ℕ) (t r s : ℕ) → T (fromTables price opens t r s) → at price s < barred
-serve-priced price opens t r s h = ltb→lt (at price s) barred (both-of (ltb (at price s) barred) (subset s (at opens (t - 1))) h .0)
+pub serve-priced : (x : Tables) (t r s : ℕ) → T (fromTables x t r s) → at (x .price) s < barred
+unfolding fromTables
+serve-priced x t r s h = ltb→lt (at (x .price) s) barred (both-of (ltb (at (x .price) s) barred) (subset s (at (x .opens) (t - 1))) h .0)
 
 -- ---- the contribution
 
-module _ {size slots : ℕ} {need late price opens : List ℕ} (g : Given size slots need late price opens) where
-  pub served-fits : (t r s : ℕ) → r < size → Sub s r → T (fromTables price opens t r s) → costFromTables need late price t r s < 2 ^ 32
-  served-fits t r s l hs h = g .fits t r s l hs (serve-priced price opens t r s h)
+pub key-sums : (x : Tables) (t r s : ℕ) → slotSum (x .need) (x .late) (at (x .price) s) (r - s) s ≡ keyFromTables x t r s
+unfolding keyFromTables
+key-sums x t r s = refl
+
+module _ {size slots : ℕ} {x : Tables} (g : Given size slots x) where
+  pub served-fits : (t r s : ℕ) → r < size → Sub s r → T (fromTables x t r s) → keyFromTables x t r s < 2 ^ 32
+  unfolding keyFromTables
+  served-fits t r s l hs h = g .fits t r s l hs (serve-priced x t r s h)
 
   -- the whole of r in the last slot, which leaves nothing
-  module _ (j r : ℕ) (l : r < size) (may : T (fromTables price opens (suc j) r r)) where
+  module _ (j r : ℕ) (l : r < size) (may : T (fromTables x (suc j) r r)) where
     nothing : r - r ≡ 0
     nothing = omega arith
 
-    pub whole-fits : slotSum need late (at price r) 0 r < 2 ^ 32
-    whole-fits = subst (λ x. slotSum need late (at price r) x r < 2 ^ 32) nothing (served-fits (suc j) r r l (sub-refl r) may)
+    pub whole-fits : slotSum (x .need) (x .late) (at (x .price) r) 0 r < 2 ^ 32
+    whole-fits = subst (λ k. slotSum (x .need) (x .late) (at (x .price) r) k r < 2 ^ 32) nothing (unfold keyFromTables in served-fits (suc j) r r l (sub-refl r) may)
 
-    pub whole-cell : (slotSum need late (at price r) 0 r ≡ lastFrom need late price opens j r .value) × (r ≡ lastFrom need late price opens j r .set)
+    pub whole-cell : (slotSum (x .need) (x .late) (at (x .price) r) 0 r ≡ lastFrom x j r .value) × (r ≡ lastFrom x j r .set)
     whole-cell =
-        let (v, s) = last-whole (fromTables price opens) (costFromTables need late price) noCost (suc j) r may (omega (arith, served-fits (suc j) r r l (sub-refl r) may)) in
-        (ap (λ x. slotSum need late (at price r) x r) (sym nothing) ∙ v, s)
+        let (v, s) = last-whole (fromTables x) (keyFromTables x) noCost (suc j) r may (omega (arith, served-fits (suc j) r r l (sub-refl r) may)) in
+        (ap (λ k. slotSum (x .need) (x .late) (at (x .price) r) k r) (sym nothing) ∙ key-sums x (suc j) r r ∙ v, s)

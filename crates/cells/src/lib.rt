@@ -6,6 +6,7 @@
 ghost use mathlib.Core.Path.{_≡_};
 ghost use Prim.Native.Nat.{_+_, _^_, _<_};
 ghost use lib.ListN.{length};
+ghost use Rattle.staging.specs.Tables.{tablesOf};
 ghost use Rattle.cells.specs.Given.{slotSum, Given, Rests, cellFrom, lastFrom};
 
 // A cell of the table: the least value, and the set that is served for it.
@@ -36,8 +37,8 @@ pub fn cheapest(
     j: usize,
     r: usize,
 ) -> Pick
-    requires { ⌜ Given (r + 1) (j + 1) (now need) (now late) (now price) (now opens) × Rests (now price) (now opens) (now cost) j r ⌝ }
-    ensures { λ p. ⌜ (p .value ≡ cellFrom (now (need .entry)) (now (late .entry)) (now (price .entry)) (now (opens .entry)) (now (cost .entry)) j r .value) × (p .set ≡ cellFrom (now (need .entry)) (now (late .entry)) (now (price .entry)) (now (opens .entry)) (now (cost .entry)) j r .set) ⌝ }
+    requires { ⌜ Given (r + 1) (j + 1) (tablesOf (now need) (now late) (now price) (now opens)) × Rests (tablesOf (now need) (now late) (now price) (now opens)) (now cost) j r ⌝ }
+    ensures { λ p. ⌜ (p .value ≡ cellFrom (tablesOf (now (need .entry)) (now (late .entry)) (now (price .entry)) (now (opens .entry))) (now (cost .entry)) j r .value) × (p .set ≡ cellFrom (tablesOf (now (need .entry)) (now (late .entry)) (now (price .entry)) (now (opens .entry))) (now (cost .entry)) j r .set) ⌝ }
 {
     let ready = r & opens[j];
     let mut least: u64 = staging::NONE;
@@ -68,8 +69,8 @@ pub fn cheapest(
 
 // The cell of the last slot, j + 1, where r remains: nothing may be left, so all of r is served, or nothing can be.
 pub fn whole(need: &[u16], late: &[u32], price: &[u32], opens: &[usize], j: usize, r: usize) -> Pick
-    requires { ⌜ Given (r + 1) (j + 1) (now need) (now late) (now price) (now opens) ⌝ }
-    ensures { λ p. ⌜ (p .value ≡ lastFrom (now (need .entry)) (now (late .entry)) (now (price .entry)) (now (opens .entry)) j r .value) × (p .set ≡ lastFrom (now (need .entry)) (now (late .entry)) (now (price .entry)) (now (opens .entry)) j r .set) ⌝ }
+    requires { ⌜ Given (r + 1) (j + 1) (tablesOf (now need) (now late) (now price) (now opens)) ⌝ }
+    ensures { λ p. ⌜ (p .value ≡ lastFrom (tablesOf (now (need .entry)) (now (late .entry)) (now (price .entry)) (now (opens .entry))) j r .value) × (p .set ≡ lastFrom (tablesOf (now (need .entry)) (now (late .entry)) (now (price .entry)) (now (opens .entry))) j r .set) ⌝ }
 {
     let splits = price[r];
     if (splits < staging::BARRED) & (r & opens[j] == r) {

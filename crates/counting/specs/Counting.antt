@@ -7,12 +7,20 @@ use Rattle.fold.specs.Fold.{sum}
 use Rattle.model.specs.Model.{Outcome, slotOf, outsideBoxes, splitBoxes, splitsTo}
 use Rattle.counting.specs.declared.Value.{Value}
 
+-- an outcome of its numbers, in the order of the plan file's names line
+abbrev pub figures : ℕ → ℕ → ℕ → Outcome
+figures revisits splits cost = record { revisits = revisits; splits = splits; cost = cost }
+
 abbrev pub outcomeOf : Value → Outcome
-outcomeOf v = record { revisits = v .revisits .0; splits = v .splits .0; cost = v .cost }
+outcomeOf v = figures (v .revisits .0) (v .splits .0) (v .cost)
 
 -- what stands beside a refusal
 abbrev pub noOutcome : Outcome
-noOutcome = record { revisits = 0; splits = 0; cost = 0 }
+noOutcome = figures 0 0 0
+
+-- outcomes are equal where their numbers are
+pub same-figures : {a b : Outcome} → a .revisits ≡ b .revisits → a .splits ≡ b .splits → a .cost ≡ b .cost → a ≡ b
+same-figures r s c = λ i. figures (r i) (s i) (c i)
 
 -- the split moves of the boxes that train i receives are those from outside its own slot
 pub split-outside : (n : ℕ) (a : ℕ → ℕ → ℕ) (row : List ℕ) (i : ℕ) → sum n (outsideBoxes a row (slotOf row i) i) ≡ splitsTo n a row i

@@ -49,33 +49,33 @@ pub fn zero_value() -> Value
 }
 
 // Whether train j supplies train i and has a later slot.
-fn is_late_supplier(boxes: &[u8], width: usize, slots: &[u8], i: usize, j: usize) -> bool
-    requires { ⌜ GivenPair width (now boxes) (now slots) i j ⌝ }
-    ensures { λ r. ⌜ r ≡ lateSupplier (cell width (now (boxes .entry))) (now (slots .entry)) i j ⌝ }
+fn is_late_supplier(boxes: &[u8], width: usize, row: &[u8], i: usize, j: usize) -> bool
+    requires { ⌜ GivenPair width (now boxes) (now row) i j ⌝ }
+    ensures { λ r. ⌜ r ≡ lateSupplier (cell width (now (boxes .entry))) (now (row .entry)) i j ⌝ }
 {
-    (0 < day::cell_at(boxes, width, i, j)) & (slots[i] < slots[j])
+    (0 < day::cell_at(boxes, width, i, j)) & (row[i] < row[j])
 }
 
 // Whether train i revisits: some supplier has a later slot.
-fn is_revisiting(boxes: &[u8], width: usize, slots: &[u8], n: usize, i: usize) -> bool
-    requires { ⌜ Given n width (now boxes) (now slots) × (i < n) ⌝ }
-    ensures { λ r. ⌜ r ≡ revisiting n (cell width (now (boxes .entry))) (now (slots .entry)) i ⌝ }
+fn is_revisiting(boxes: &[u8], width: usize, row: &[u8], n: usize, i: usize) -> bool
+    requires { ⌜ Given n width (now boxes) (now row) × (i < n) ⌝ }
+    ensures { λ r. ⌜ r ≡ revisiting n (cell width (now (boxes .entry))) (now (row .entry)) i ⌝ }
 {
     for j in 0..n {
-        if is_late_supplier(boxes, width, slots, i, j) {
+        if is_late_supplier(boxes, width, row, i, j) {
             return true;
         }
     }
     false
 }
 
-pub fn count_revisits(boxes: &[u8], width: usize, slots: &[u8], n: usize) -> Revisits
-    requires { ⌜ Given n width (now boxes) (now slots) ⌝ }
-    ensures { λ r. ⌜ (r .0 ≡ revisits n (cell width (now (boxes .entry))) (now (slots .entry))) × (r .0 ≤ 64) ⌝ }
+pub fn count_revisits(boxes: &[u8], width: usize, row: &[u8], n: usize) -> Revisits
+    requires { ⌜ Given n width (now boxes) (now row) ⌝ }
+    ensures { λ r. ⌜ (r .0 ≡ revisits n (cell width (now (boxes .entry))) (now (row .entry))) × (r .0 ≤ 64) ⌝ }
 {
     let mut count: u64 = 0;
     for i in 0..n {
-        if is_revisiting(boxes, width, slots, n, i) {
+        if is_revisiting(boxes, width, row, n, i) {
             count += 1;
         }
     }
@@ -106,13 +106,13 @@ pub fn boxes_outside(boxes: &[u8], width: usize, row: &[u8], n: usize, t: u8, i:
     total
 }
 
-pub fn count_splits(boxes: &[u8], width: usize, slots: &[u8], n: usize) -> Splits
-    requires { ⌜ Given n width (now boxes) (now slots) ⌝ }
-    ensures { λ r. ⌜ (r .0 ≡ splits n (cell width (now (boxes .entry))) (now (slots .entry))) × (r .0 ≤ 1044480) ⌝ }
+pub fn count_splits(boxes: &[u8], width: usize, row: &[u8], n: usize) -> Splits
+    requires { ⌜ Given n width (now boxes) (now row) ⌝ }
+    ensures { λ r. ⌜ (r .0 ≡ splits n (cell width (now (boxes .entry))) (now (row .entry))) × (r .0 ≤ 1044480) ⌝ }
 {
     let mut total: u64 = 0;
     for i in 0..n {
-        total += boxes_outside(boxes, width, slots, n, slots[i], i);
+        total += boxes_outside(boxes, width, row, n, row[i], i);
     }
     Splits(total)
 }
@@ -126,13 +126,13 @@ fn weigh(revisit: u32, split: u32, revisits: Revisits, splits: Splits) -> u64
 }
 
 // The trains of slot t as one mask (01: the set number of the slot).
-pub fn slot_mask(slots: &[u8], n: usize, t: u8) -> u64
-    requires { ⌜ (n ≤ 64) × (n ≤ length (now slots)) ⌝ }
-    ensures { λ r. ⌜ r ≡ slotMask n (now (slots .entry)) t ⌝ }
+pub fn slot_mask(row: &[u8], n: usize, t: u8) -> u64
+    requires { ⌜ (n ≤ 64) × (n ≤ length (now row)) ⌝ }
+    ensures { λ r. ⌜ r ≡ slotMask n (now (row .entry)) t ⌝ }
 {
     let mut mask: u64 = 0;
     for i in 0..n {
-        if slots[i] == t {
+        if row[i] == t {
             mask = mask | (1u64 << i);
         }
     }
@@ -143,16 +143,16 @@ pub fn slot_mask(slots: &[u8], n: usize, t: u8) -> u64
 pub fn value_slots(
     boxes: &[u8],
     width: usize,
-    slots: &[u8],
+    row: &[u8],
     n: usize,
     revisit: u32,
     split: u32,
 ) -> Value
-    requires { ⌜ Given n width (now boxes) (now slots) ⌝ }
-    ensures { λ r. ⌜ outcomeOf r ≡ weighedCounts revisit split (revisits n (cell width (now (boxes .entry))) (now (slots .entry))) (splits n (cell width (now (boxes .entry))) (now (slots .entry))) ⌝ }
+    requires { ⌜ Given n width (now boxes) (now row) ⌝ }
+    ensures { λ r. ⌜ outcomeOf r ≡ weighedCounts revisit split (revisits n (cell width (now (boxes .entry))) (now (row .entry))) (splits n (cell width (now (boxes .entry))) (now (row .entry))) ⌝ }
 {
-    let revisits = count_revisits(boxes, width, slots, n);
-    let splits = count_splits(boxes, width, slots, n);
+    let revisits = count_revisits(boxes, width, row, n);
+    let splits = count_splits(boxes, width, row, n);
     Value {
         revisits: revisits,
         splits: splits,

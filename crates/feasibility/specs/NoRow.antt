@@ -1,4 +1,4 @@
--- An overbooked interval leaves no allowed row: the trains bound inside a..b all stand in its slots, and each slot holds at most G.
+-- An overbooked interval leaves no fitting row, so no allowed one: the trains bound inside a..b all stand in its slots, and each slot holds at most G.
 -- Assumes nothing.
 use mathlib.Core.Path.{_≡_}
 use mathlib.Core.Bool.{Bool, _&&_}
@@ -11,12 +11,12 @@ use borrow.Author.Tests.{eq-eqb}
 use Rattle.fold.specs.Test.{of-true}
 use Rattle.fold.specs.Fold.{count}
 use Rattle.fold.specs.Counting.{same-or, count-zero, count-le, count-or}
-use Rattle.model.specs.Model.{Yard, firstSlot, lastSlot, slotOf, load, bound, boundInside, overbooked, NoRow}
-use Rattle.model.specs.Rows.{Allowed, allowed-is, both-le, le-both}
+use Rattle.model.specs.Model.{Yard, firstSlot, lastSlot, slotOf, load, bound, boundInside, fitting, overbooked, NoRow}
+use Rattle.model.specs.Rows.{Fitting, fitting-is, allowed-fits, both-le, le-both}
 use Rattle.model.specs.Overbooked.{overbooked-range}
 use Rattle.feasibility.specs.Bound.{isBound, places, over-exceeds}
 
-module _ (y : Yard) (row : List ℕ) (w : Allowed y row) where
+module _ (y : Yard) (row : List ℕ) (w : Fitting y row) where
   -- train i stands in one of the slots a..b
   abbrev within : ℕ → ℕ → ℕ → Bool
   within a b i = leb a (slotOf row i) && leb (slotOf row i) b
@@ -59,7 +59,10 @@ module _ (y : Yard) (row : List ℕ) (w : Allowed y row) where
     slots-hold (a - 1) (b - a + 1) (omega arith),
   )
 
-pub no-row : (y : Yard) (a b : ℕ) → T (overbooked y a b) → NoRow y
-no-row y a b t row al =
+pub none-fits : (y : Yard) (a b : ℕ) → T (overbooked y a b) → (row : List ℕ) → T (fitting y row) → ⊥
+none-fits y a b t row f =
     let (from, order, upto) = overbooked-range y a b t in
-    omega (arith, over-exceeds y a b t, interval-holds y row (allowed-is y row al) a b from order upto)
+    omega (arith, over-exceeds y a b t, interval-holds y row (fitting-is y row f) a b from order upto)
+
+pub no-row : (y : Yard) (a b : ℕ) → T (overbooked y a b) → NoRow y
+no-row y a b t row al = none-fits y a b t row (allowed-fits y row al)

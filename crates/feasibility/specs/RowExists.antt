@@ -1,4 +1,4 @@
--- A day whose windows overbook no interval has an allowed row: slot by slot, each track takes the train with the earliest last slot.
+-- A day whose windows overbook no interval has a fitting row: slot by slot, each track takes the train with the earliest last slot.
 -- Assumes nothing.
 use mathlib.Core.Logic.{⊎-elim}
 use mathlib.Core.List.{List}
@@ -7,8 +7,8 @@ use native.Mathlib.Omega.{arith}
 use lib.Dec.{T}
 use lib.ListN.{replicate, set}
 use Rattle.fold.specs.Counting.{le-or-lt}
-use Rattle.model.specs.Model.{Yard, lastSlot, slotOf, allowed}
-use Rattle.model.specs.Rows.{Allowed, is-allowed}
+use Rattle.model.specs.Model.{Yard, lastSlot, slotOf, fitting}
+use Rattle.model.specs.Rows.{Fitting, is-fitting}
 use Rattle.feasibility.specs.Bound.{Windows, Spacious}
 use Rattle.feasibility.specs.Earliest.{earliest}
 use Rattle.feasibility.specs.Partial.{ready, Partial, partial-start, partial-close, ends-later, partial-next}
@@ -39,7 +39,7 @@ module _ (y : Yard) (windows : Windows y) (spacious : Spacious y) where
       (λ h. h)
       (le-or-lt (slotOf row i) 0)
 
-  all-placed : (row : List ℕ) → Partial y (y .slots) 0 row → Allowed y row
+  all-placed : (row : List ℕ) → Partial y (y .slots) 0 row → Fitting y row
   all-placed row s = record {
     long = s .long;
     slotted = λ i l. (none-waits row s i l, s .placed i l (none-waits row s i l) .2);
@@ -47,7 +47,7 @@ module _ (y : Yard) (windows : Windows y) (spacious : Spacious y) where
     room = λ t l. s .room t;
   }
 
-  pub row-exists : (row : List ℕ) × T (allowed y row)
+  pub row-exists : (row : List ℕ) × T (fitting y row)
   row-exists =
       let (row, s) = filled (y .slots) (omega arith) in
-      (row, is-allowed y row (all-placed row s))
+      (row, is-fitting y row (all-placed row s))

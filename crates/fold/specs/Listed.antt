@@ -1,13 +1,14 @@
 -- The list of a function's values below a bound, and the lists that it gives, joined.
 -- Assumes nothing.
-use mathlib.Core.Path.{_≡_, refl, sym, ap, ap₂, _∙_}
+use mathlib.Core.Path.{_≡_, refl, sym, ap, ap₂, _∙_, subst}
 use mathlib.Core.List.{List, [], _∷_, _++_, append-nil, append-assoc}
 use mathlib.Core.Logic.{⊎-elim}
 use Prim.Native.Nat.{ℕ, zero, suc, _+_, _≤_, _<_}
 use native.Mathlib.Nat.{le-of-suc-le-suc, eq-or-lt-of-le}
 use native.Mathlib.Numerals.{add-one}
 use native.Mathlib.Omega.{arith}
-use lib.ListN.{length, getD, length-append}
+use lib.ListN.{length, getD, take, drop, length-append}
+use lib.Seq.{take-append-seam, drop-append-seam}
 
 -- f 0, .., f (n - 1)
 unfoldable pub listed : {X : Type 0} → ℕ → (ℕ → X) → List X
@@ -36,6 +37,15 @@ module _ {X : Type 0} where
   unfolding listed
   listed-ext zero f g e = refl
   listed-ext (suc n) f g e = ap₂ (λ (x : X) (r : List X). x ∷ r) (e 0 (omega arith)) (listed-ext n (λ i. f (suc i)) (λ i. g (suc i)) (λ i h. e (suc i) (omega arith)))
+
+-- ---- the front of a list of known length, and what is behind it
+
+module _ {X : Type 0} {n : ℕ} (front behind : List X) (long : length front ≡ n) where
+  pub take-front : take n (front ++ behind) ≡ front
+  take-front = subst (λ k. take k (front ++ behind) ≡ front) long (take-append-seam front behind)
+
+  pub drop-front : drop n (front ++ behind) ≡ behind
+  drop-front = subst (λ k. drop k (front ++ behind) ≡ behind) long (drop-append-seam front behind)
 
 -- f 0 ++ .. ++ f (k - 1)
 unfoldable pub joined : {X : Type 0} → ℕ → (ℕ → List X) → List X

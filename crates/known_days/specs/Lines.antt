@@ -15,6 +15,7 @@ use Rattle.model.specs.Overbooked.{Interval, firstOverbooked, first-says, SaysF
 use Rattle.day.specs.Answer.{Answer, gives, refuses}
 use Rattle.day.specs.Sound.{dayLimits, yard, sound}
 use Rattle.day.specs.declared.Day.{Day}
+use Rattle.counting.specs.Counting.{same-figures}
 use Rattle.valuing.specs.Valuing.{valued}
 use Rattle.planning.specs.Planning.{planned}
 use Rattle.baselines.specs.Baselines.{Comparison, compared}
@@ -105,7 +106,7 @@ same-outcome a b t =
     let re = eqb→eq (a .revisits) (b .revisits) r in
     let se = eqb→eq (a .splits) (b .splits) s in
     let ce = eqb→eq (a .cost) (b .cost) c in
-    λ i. record { revisits = re i; splits = se i; cost = ce i }
+    same-figures re se ce
 
 same-int : (a b : ℤ) → T (sameInt a b) → a ≡ b
 unfolding sameInt

@@ -15,13 +15,14 @@ use Rattle.fold.specs.Table.{allPass, all-hold}
 use Rattle.fold.specs.Fold
 use Rattle.fold.specs.Fold.{sum, count, each, lowest}
 use Rattle.sets.specs.Mask.{mask}
-use Rattle.model.specs.Model.{Outcome, cost, allowed, precedes, lateSupplier, revisiting, revisits, splitBoxes, splitsTo, splits, weighed, inSlots, inWindow, load, roomy, slotMask, lower, bound, exceeds, overbooked, inTime, outsideBoxes}
+use Rattle.model.specs.Model.{Outcome, cost, fitting, allowed, byKey, precedes, lateSupplier, revisiting, revisits, splitBoxes, splitsTo, splits, weighed, inSlots, inWindow, load, roomy, slotMask, lower, bound, exceeds, overbooked, inTime, outsideBoxes}
 use Rattle.model.specs.Rows.{allRows}
-use Rattle.model.specs.Order.{byKey, pick}
+use Rattle.model.specs.Order.{pick}
 use Rattle.model.specs.BestOf.{bestOf}
 use Rattle.model.specs.Overbooked.{firstOverbooked, overbookedFrom, overbookedFirst, overbookedLast}
 use Rattle.day.specs.Answer.{Answer, gives, refuses}
 use Rattle.day.specs.Sound.{within, headRanges, trainRanges, shaped, sound, numberBefore, trainSound, unused, positionSound, pairSound, receiverSound}
+use Rattle.counting.specs.Counting.{figures}
 use Rattle.valuing.specs.Valuing.{valued, strays, overfull}
 use Rattle.planning.specs.Planning.{planned}
 use Rattle.procedures.specs.Procedures.{trackFree, waits, suits, earliest, comeTo, firstCome, waitingSupplier, priority, select, fillTo, servedTo, myopic}
@@ -31,9 +32,6 @@ use Rattle.known_days.specs.Days.{move, dayOf, openDay, paperDay, number
 
 -- ---- the table
 
-abbrev pub counts : ℕ → ℕ → ℕ → Outcome
-counts revisits splits cost = record { revisits = revisits; splits = splits; cost = cost }
-
 abbrev pub saving : Outcome → ℕ → Answer Comparison
 saving o saved = gives record { outcome = o; saving = pos saved }
 
@@ -41,19 +39,19 @@ unfoldable pub table : List Line
 unfolding dayOf openDay paperDay numbered
 table =
     -- P1 to P3, the source's example
-    best (paperDay 1 1 1) (2 ∷ 1 ∷ 2 ∷ 1 ∷ []) (counts 1 7 8)
-    ∷ values (paperDay 1 1 1) (2 ∷ 1 ∷ 2 ∷ 1 ∷ []) (gives (counts 1 7 8))
-    ∷ values (paperDay 1 1 1) (2 ∷ 1 ∷ 1 ∷ 2 ∷ []) (gives (counts 1 15 16))
-    ∷ values (paperDay 1 1 1) (1 ∷ 1 ∷ 2 ∷ 2 ∷ []) (gives (counts 1 10 11))
+    best (paperDay 1 1 1) (2 ∷ 1 ∷ 2 ∷ 1 ∷ []) (figures 1 7 8)
+    ∷ values (paperDay 1 1 1) (2 ∷ 1 ∷ 2 ∷ 1 ∷ []) (gives (figures 1 7 8))
+    ∷ values (paperDay 1 1 1) (2 ∷ 1 ∷ 1 ∷ 2 ∷ []) (gives (figures 1 15 16))
+    ∷ values (paperDay 1 1 1) (1 ∷ 1 ∷ 2 ∷ 2 ∷ []) (gives (figures 1 10 11))
     -- P4 weights 0 and 1, P5 weights 0 and 0
-    ∷ best (paperDay 0 1 1) (2 ∷ 1 ∷ 2 ∷ 1 ∷ []) (counts 1 7 7)
+    ∷ best (paperDay 0 1 1) (2 ∷ 1 ∷ 2 ∷ 1 ∷ []) (figures 1 7 7)
     ∷ later (paperDay 0 1 1) (2 ∷ 1 ∷ 2 ∷ 1 ∷ []) (1 ∷ 2 ∷ 1 ∷ 2 ∷ []) 7
-    ∷ best (paperDay 0 0 1) (2 ∷ 2 ∷ 1 ∷ 1 ∷ []) (counts 2 10 0)
+    ∷ best (paperDay 0 0 1) (2 ∷ 2 ∷ 1 ∷ 1 ∷ []) (figures 2 10 0)
     -- P6 train 4 bound to slot 2, P7 the same with weights 4 and 1
-    ∷ best (paperDay 1 1 2) (1 ∷ 2 ∷ 1 ∷ 2 ∷ []) (counts 2 7 9)
-    ∷ best (paperDay 4 1 2) (1 ∷ 1 ∷ 2 ∷ 2 ∷ []) (counts 1 10 14)
+    ∷ best (paperDay 1 1 2) (1 ∷ 2 ∷ 1 ∷ 2 ∷ []) (figures 2 7 9)
+    ∷ best (paperDay 4 1 2) (1 ∷ 1 ∷ 2 ∷ 2 ∷ []) (figures 1 10 14)
     -- P8 one train
-    ∷ best (openDay 1 1 1 []) (1 ∷ []) (counts 0 0 0)
+    ∷ best (openDay 1 1 1 []) (1 ∷ []) (figures 0 0 0)
     -- P9 and P10, overbooked
     ∷ refused (dayOf 3 2 2 1 1 (1 ∷ 1 ∷ 1 ∷ []) (1 ∷ 1 ∷ 1 ∷ []) []) 1 1 3
     ∷ refused (openDay 3 1 2 []) 1 2 3
@@ -63,9 +61,9 @@ table =
     ∷ refused (dayOf 6 1 4 1 1 (2 ∷ 2 ∷ 2 ∷ 3 ∷ 2 ∷ 2 ∷ []) (3 ∷ 3 ∷ 3 ∷ 4 ∷ 2 ∷ 2 ∷ []) []) 1 3 5
     ∷ refused (dayOf 5 1 4 1 1 (2 ∷ 2 ∷ 2 ∷ 4 ∷ 4 ∷ []) (2 ∷ 3 ∷ 3 ∷ 4 ∷ 4 ∷ []) []) 1 4 5
     -- P11 to P13
-    ∷ best (openDay 2 1 2 (move 1 2 1 ∷ move 2 1 1 ∷ [])) (2 ∷ 1 ∷ []) (counts 1 2 3)
-    ∷ best (openDay 2 2 2 (move 1 2 1 ∷ move 2 1 1 ∷ [])) (1 ∷ 1 ∷ []) (counts 0 0 0)
-    ∷ best (openDay 3 1 3 (move 1 2 1 ∷ [])) (3 ∷ 2 ∷ 1 ∷ []) (counts 0 1 1)
+    ∷ best (openDay 2 1 2 (move 1 2 1 ∷ move 2 1 1 ∷ [])) (2 ∷ 1 ∷ []) (figures 1 2 3)
+    ∷ best (openDay 2 2 2 (move 1 2 1 ∷ move 2 1 1 ∷ [])) (1 ∷ 1 ∷ []) (figures 0 0 0)
+    ∷ best (openDay 3 1 3 (move 1 2 1 ∷ [])) (3 ∷ 2 ∷ 1 ∷ []) (figures 0 1 1)
     -- the limits of the head on both sides: trains and tracks 1 and 12, 0 and 13; slots 1 and 8, 0 and 9; weights 0 and 65535, 65536
     ∷ accepted (openDay 12 12 8 []) true
     ∷ accepted (openDay 1 1 1 []) true
@@ -80,7 +78,7 @@ table =
     ∷ accepted (paperDay 65536 1 1) false
     ∷ accepted (paperDay 1 65536 1) false
     -- G trains in a slot and G + 1
-    ∷ values (openDay 4 2 2 []) (1 ∷ 1 ∷ 2 ∷ 2 ∷ []) (gives (counts 0 0 0))
+    ∷ values (openDay 4 2 2 []) (1 ∷ 1 ∷ 2 ∷ 2 ∷ []) (gives (figures 0 0 0))
     ∷ values (openDay 4 2 2 []) (1 ∷ 1 ∷ 1 ∷ 2 ∷ []) (refuses 13 (1 ∷ []))
     -- windows: first and last 1 and T, 0 and T + 1, reversed
     ∷ accepted (dayOf 2 1 2 1 1 (1 ∷ 2 ∷ []) (1 ∷ 2 ∷ []) []) true
@@ -117,49 +115,49 @@ table =
     ∷ values (paperDay 1 1 1) (1 ∷ 2 ∷ 2 ∷ 2 ∷ []) (refuses 13 (2 ∷ []))
     ∷ values (openDay 4 1 2 []) (1 ∷ 1 ∷ 2 ∷ 2 ∷ []) (refuses 13 (1 ∷ []))
     -- planning lent 2^n words, T × 2^n words and n bytes, each one short, and more; 8 before 10, 10 before 9
-    ∷ plans (paperDay 1 1 1) 16 32 4 (gives (counts 1 7 8))
+    ∷ plans (paperDay 1 1 1) 16 32 4 (gives (figures 1 7 8))
     ∷ plans (paperDay 1 1 1) 15 32 4 (refuses 10 (0 ∷ []))
     ∷ plans (paperDay 1 1 1) 16 31 4 (refuses 10 (0 ∷ []))
     ∷ plans (paperDay 1 1 1) 16 32 3 (refuses 10 (0 ∷ []))
-    ∷ plans (paperDay 1 1 1) 4096 32768 12 (gives (counts 1 7 8))
+    ∷ plans (paperDay 1 1 1) 4096 32768 12 (gives (figures 1 7 8))
     ∷ plans (paperDay 65536 1 1) 0 0 0 (refuses 8 (0 ∷ []))
     ∷ plans (openDay 3 1 2 []) 8 16 3 (refuses 9 (1 ∷ 2 ∷ 3 ∷ []))
     ∷ plans (openDay 3 1 2 []) 7 16 3 (refuses 10 (0 ∷ []))
     -- comparing lent the same two areas: 8 before 10, 10 before 9, 9 before 14 (the next lines but three)
-    ∷ comparesIn 16 32 firstCome (paperDay 1 1 1) (saving (counts 1 10 11) 3)
+    ∷ comparesIn 16 32 firstCome (paperDay 1 1 1) (saving (figures 1 10 11) 3)
     ∷ comparesIn 15 32 firstCome (paperDay 1 1 1) (refuses 10 (0 ∷ []))
     ∷ comparesIn 16 31 myopic (paperDay 1 1 1) (refuses 10 (0 ∷ []))
     ∷ comparesIn 0 0 myopic (paperDay 65536 1 1) (refuses 8 (0 ∷ []))
     ∷ comparesIn 7 16 firstCome (openDay 3 1 2 []) (refuses 10 (0 ∷ []))
     -- P1 and P9 compared: both procedures give P3's row, and 9 comes before 14
-    ∷ compares firstCome (paperDay 1 1 1) (1 ∷ 1 ∷ 2 ∷ 2 ∷ []) (saving (counts 1 10 11) 3)
-    ∷ compares myopic (paperDay 1 1 1) (1 ∷ 1 ∷ 2 ∷ 2 ∷ []) (saving (counts 1 10 11) 3)
+    ∷ compares firstCome (paperDay 1 1 1) (1 ∷ 1 ∷ 2 ∷ 2 ∷ []) (saving (figures 1 10 11) 3)
+    ∷ compares myopic (paperDay 1 1 1) (1 ∷ 1 ∷ 2 ∷ 2 ∷ []) (saving (figures 1 10 11) 3)
     ∷ compares firstCome (dayOf 3 2 2 1 1 (1 ∷ 1 ∷ 1 ∷ []) (1 ∷ 1 ∷ 1 ∷ []) []) (1 ∷ 1 ∷ 0 ∷ []) (refuses 9 (1 ∷ 1 ∷ 3 ∷ []))
     ∷ compares myopic (dayOf 3 2 2 1 1 (1 ∷ 1 ∷ 1 ∷ []) (1 ∷ 1 ∷ 1 ∷ []) []) (1 ∷ 1 ∷ 0 ∷ []) (refuses 9 (1 ∷ 1 ∷ 3 ∷ []))
     -- one procedure leaves a train over and the other does not
     ∷ compares firstCome (dayOf 2 1 2 1 1 (1 ∷ 1 ∷ []) (2 ∷ 1 ∷ []) (move 1 2 1 ∷ [])) (1 ∷ 0 ∷ []) (refuses 14 (2 ∷ []))
-    ∷ compares myopic (dayOf 2 1 2 1 1 (1 ∷ 1 ∷ []) (2 ∷ 1 ∷ []) (move 1 2 1 ∷ [])) (2 ∷ 1 ∷ []) (saving (counts 0 1 1) 0)
-    ∷ compares firstCome (dayOf 2 1 2 1 1 (1 ∷ 1 ∷ []) (1 ∷ 2 ∷ []) (move 1 2 1 ∷ [])) (1 ∷ 2 ∷ []) (saving (counts 1 1 2) 0)
+    ∷ compares myopic (dayOf 2 1 2 1 1 (1 ∷ 1 ∷ []) (2 ∷ 1 ∷ []) (move 1 2 1 ∷ [])) (2 ∷ 1 ∷ []) (saving (figures 0 1 1) 0)
+    ∷ compares firstCome (dayOf 2 1 2 1 1 (1 ∷ 1 ∷ []) (1 ∷ 2 ∷ []) (move 1 2 1 ∷ [])) (1 ∷ 2 ∷ []) (saving (figures 1 1 2) 0)
     ∷ compares myopic (dayOf 2 1 2 1 1 (1 ∷ 1 ∷ []) (1 ∷ 2 ∷ []) (move 1 2 1 ∷ [])) (0 ∷ 1 ∷ []) (refuses 14 (1 ∷ []))
     -- both cost more than the plan, each its own
-    ∷ compares firstCome (openDay 3 2 2 (move 2 3 1 ∷ [])) (1 ∷ 1 ∷ 2 ∷ []) (saving (counts 1 1 2) 2)
-    ∷ compares myopic (openDay 3 2 2 (move 2 3 1 ∷ [])) (1 ∷ 2 ∷ 1 ∷ []) (saving (counts 0 1 1) 1)
-    -- (11) counts boxes from earlier slots: without them, as in the source's Table 2, the row would be 1 2 3
-    ∷ compares myopic (openDay 3 1 3 (move 2 1 1 ∷ [])) (1 ∷ 3 ∷ 2 ∷ []) (saving (counts 0 1 1) 0)
+    ∷ compares firstCome (openDay 3 2 2 (move 2 3 1 ∷ [])) (1 ∷ 1 ∷ 2 ∷ []) (saving (figures 1 1 2) 2)
+    ∷ compares myopic (openDay 3 2 2 (move 2 3 1 ∷ [])) (1 ∷ 2 ∷ 1 ∷ []) (saving (figures 0 1 1) 1)
+    -- (11) figures boxes from earlier slots: without them, as in the source's Table 2, the row would be 1 2 3
+    ∷ compares myopic (openDay 3 1 3 (move 2 1 1 ∷ [])) (1 ∷ 3 ∷ 2 ∷ []) (saving (figures 0 1 1) 0)
     -- train 4 waits still when its window has passed, and train 2 pays for it in slot 2
     ∷ compares myopic (dayOf 4 1 4 1 1 (1 ∷ 2 ∷ 1 ∷ 1 ∷ []) (3 ∷ 4 ∷ 2 ∷ 1 ∷ []) (move 2 4 1 ∷ move 3 1 1 ∷ [])) (1 ∷ 3 ∷ 2 ∷ 0 ∷ []) (refuses 14 (4 ∷ []))
     -- (11) with weights of its own: exchanged, each taken for 1 or left out, a revisit for each waiting supplier, suppliers counted for
     -- boxes, boxes sent for boxes received, the boxes of earlier slots or of waiting trains left out, each gives another row
-    ∷ compares myopic (dayOf 4 1 4 5 2 (replicate 4 1) (replicate 4 4) (move 1 2 1 ∷ move 2 3 1 ∷ move 2 4 1 ∷ move 3 4 4 ∷ move 4 1 5 ∷ [])) (1 ∷ 2 ∷ 4 ∷ 3 ∷ []) (saving (counts 2 12 34) 5)
+    ∷ compares myopic (dayOf 4 1 4 5 2 (replicate 4 1) (replicate 4 4) (move 1 2 1 ∷ move 2 3 1 ∷ move 2 4 1 ∷ move 3 4 4 ∷ move 4 1 5 ∷ [])) (1 ∷ 2 ∷ 4 ∷ 3 ∷ []) (saving (figures 2 12 34) 5)
     -- (11) leaves out the boxes and the suppliers of the slot itself, and of equal trains the lowest position is taken
-    ∷ compares myopic (dayOf 3 2 3 1 3 (replicate 3 1) (replicate 3 3) (move 2 1 4 ∷ [])) (1 ∷ 1 ∷ 2 ∷ []) (saving (counts 0 0 0) 0)
+    ∷ compares myopic (dayOf 3 2 3 1 3 (replicate 3 1) (replicate 3 3) (move 2 1 4 ∷ [])) (1 ∷ 1 ∷ 2 ∷ []) (saving (figures 0 0 0) 0)
     ∷ []
 
 -- ---- every line holds
 
 -- the one computation
 computed : T (allPass passes table)
-unfolding allPass passes sameOutcome sameInt sameComparison sameAnswer sameList isRow isNone isInterval table sum count each Fold.some lowest mask lateSupplier revisiting revisits splitBoxes splitsTo splits weighed cost inSlots inWindow load roomy allowed slotMask lower precedes bound exceeds overbooked allRows byKey pick bestOf overbookedFrom overbookedFirst overbookedLast firstOverbooked within headRanges trainRanges shaped numberBefore trainSound unused positionSound pairSound receiverSound sound strays overfull valued planned inTime trackFree waits suits earliest comeTo waitingSupplier outsideBoxes priority select fillTo servedTo against compared
+unfolding allPass passes sameOutcome sameInt sameComparison sameAnswer sameList isRow isNone isInterval table sum count each Fold.some lowest mask lateSupplier revisiting revisits splitBoxes splitsTo splits weighed cost inSlots inWindow load roomy fitting allowed slotMask lower precedes bound exceeds overbooked allRows byKey pick bestOf overbookedFrom overbookedFirst overbookedLast firstOverbooked within headRanges trainRanges shaped numberBefore trainSound unused positionSound pairSound receiverSound sound strays overfull valued planned inTime trackFree waits suits earliest comeTo waitingSupplier outsideBoxes priority select fillTo servedTo against compared
 computed = tt
 
 pub every-line : (l : Line) → List·Memᴰ l table → Holds l

@@ -12,9 +12,9 @@ use lib.Dec.{T, eqb}
 use lib.Seq.{ext-getD}
 use borrow.Author.Tests.{eq-eqb, eqb-true}
 use Rattle.sets.specs.Mask.{has, has-mask}
-use Rattle.model.specs.Model.{Yard, slotOf, slotMask, cost, allowed, precedes, lower, Best, NoRow}
-use Rattle.model.specs.Rows.{Allowed, allowed-is, allRows, allowed-listed}
-use Rattle.model.specs.Order.{Order, byKey, key-not, key-order, converse, along, lower-order, lower-same, pick, Picked, picked}
+use Rattle.model.specs.Model.{Yard, slotOf, slotMask, cost, allowed, precedes, lower, byKey, Best, NoRow}
+use Rattle.model.specs.Rows.{Fitting, allowed-is, allRows, allowed-listed}
+use Rattle.model.specs.Order.{Order, key-not, key-order, converse, along, lower-order, lower-same, pick, Picked, picked}
 
 -- ---- definition
 
@@ -39,7 +39,7 @@ module _ (y : Yard) where
   same-masks r s p q same =
       ext-getD 0 r s (a .long ∙ sym (allowed-is y s q .long)) (λ i h. at i (subst (λ k. i < k) (a .long) h) (slotOf r i) refl)
     where
-      a : Allowed y r
+      a : Fitting y r
       a = allowed-is y r p
 
       at : (i : ℕ) → i < y .trains → (t : ℕ) → slotOf r i ≡ t → slotOf r i ≡ slotOf s i

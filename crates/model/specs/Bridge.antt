@@ -1,7 +1,7 @@
--- The bridge to the paper's own form, the integer program of Program.antt. Its points (x, y, z) and the allowed rows of Model.antt belong together:
---     feasible-row     each feasible point gives an allowed row, with the same slots, that costs at most the objective
---     row-feasible     each allowed row, with the least y and z, is a feasible point whose objective is the row's cost
---     least-y, least-z for an allowed row, (4) holds exactly where y_i is at least ours, (5) exactly where z_ij is at least ours
+-- The bridge to the paper's own form, the integer program of Program.antt. Its points (x, y, z) and the fitting rows of Model.antt belong together:
+--     feasible-row     each feasible point gives a fitting row, with the same slots, that costs at most the objective
+--     row-feasible     each fitting row, with the least y and z, is a feasible point whose objective is the row's cost
+--     least-y, least-z for a fitting row, (4) holds exactly where y_i is at least ours, (5) exactly where z_ij is at least ours
 --     best-optimal     so the best plan's cost is the least objective of the program
 -- Assumes nothing.
 use mathlib.Core.Path.{_≡_, refl, sym, ap, _∙_}
@@ -18,9 +18,9 @@ use Rattle.fold.specs.Fold.{bit, sum, count, some-at, some-of}
 use Rattle.fold.specs.Sums.{sum-ext, sum-le, sum-only, sum-one}
 use Rattle.fold.specs.Listed.{listed, length-listed, listed-at}
 use Rattle.fold.specs.Counting.{same-or, le-or-lt, bit-le}
-use Rattle.model.specs.Model.{Yard, received, slotOf, lateSupplier, revisiting, revisits, splitBoxes, splitsTo, splits, weighed, cost, load, allowed, Best}
+use Rattle.model.specs.Model.{Yard, received, slotOf, lateSupplier, revisiting, revisits, splitBoxes, splitsTo, splits, weighed, cost, load, fitting, Best}
 use Rattle.model.specs.Program.{bigM, slotIn, distance, Supplies, Feasible, objective, chosen, leastY, leastZ}
-use Rattle.model.specs.Rows.{Allowed, allowed-is, is-allowed}
+use Rattle.model.specs.Rows.{Fitting, fitting-is, is-fitting, fits-allowed}
 
 -- ---- numbers and tests
 
@@ -113,10 +113,10 @@ module _ (n : ℕ) (a : ℕ → ℕ → ℕ) (row : List ℕ) (i : ℕ) where
       some-at n (lateSupplier a row i) j l
       (both (ltb 0 (a i j)) (ltb (slotOf row i) (slotOf row j)) (lt→ltb 0 (a i j) p) (lt→ltb (slotOf row i) (slotOf row j) q))
 
-module _ (y : Yard) (row : List ℕ) (ok : T (allowed y row)) where
+module _ (y : Yard) (row : List ℕ) (ok : T (fitting y row)) where
   -- what the test of the row says
-  is : Allowed y row
-  is = allowed-is y row ok
+  is : Fitting y row
+  is = fitting-is y row ok
 
   -- (4) for train i holds exactly where y_i is at least ours
   pub least-y : (i w : ℕ) → i < y .trains
@@ -154,7 +154,7 @@ module _ (y : Yard) (row : List ℕ) (ok : T (allowed y row)) where
   unfolding slotIn
   slot-chosen i h = let (a, b) = is .slotted i h in sum-chosen-slot (y .slots) (slotOf row i) a b
 
-  -- an allowed row with the least y and z is feasible, and the objective is its cost
+  -- a fitting row with the least y and z is feasible, and the objective is its cost
   pub row-feasible : Feasible y (chosen row) (leastY y row) (leastZ row)
   unfolding load count
   row-feasible = record {
@@ -192,10 +192,10 @@ module _ (y : Yard) (x : ℕ → ℕ → ℕ) (v : ℕ → ℕ) (z : ℕ → ℕ
       → (1 ≤ slotOf (made y x) i) × (slotOf (made y x) i ≤ y .slots) × ((t : ℕ) → t < y .slots → x i (suc t) ≡ chosen (made y x) i (suc t))
   made-given i h = rw (made-slot y x i h) at (slot-given (y .slots) x i (λ t. f .eq6x i t h) (f .eq2 i h))
 
-  -- so it is allowed
-  made-allowed : T (allowed y (made y x))
+  -- so it fits
+  made-fits : T (fitting y (made y x))
   unfolding made load count
-  made-allowed = is-allowed y (made y x) (record {
+  made-fits = is-fitting y (made y x) (record {
     long = length-listed (y .trains) (slotIn (y .slots) x);
     slotted = λ i h. let (a, b, c) = made-given i h in (a, b);
     windowed = λ i h. rw (made-slot y x i h) at (f .eq12 i h);
@@ -205,21 +205,21 @@ module _ (y : Yard) (x : ℕ → ℕ → ℕ) (v : ℕ → ℕ) (z : ℕ → ℕ
   -- the program's y and z are no less than its own
   made-cost : cost y (made y x) ≤ objective y v z
   made-cost =
-      rw (← row-objective y (made y x) made-allowed)
+      rw (← row-objective y (made y x) made-fits)
       (objective-le y (leastY y (made y x)) v (leastZ (made y x)) z
-      (λ i h. least-y y (made y x) made-allowed i (v i) h .0 (λ j s. rw (made-slot y x i h, made-slot y x j (s .0)) at (f .eq4 i j h s)))
-      (λ i j h s. least-z y (made y x) made-allowed i j (z i j) h s .0 (rw (made-slot y x i h, made-slot y x j (s .0)) at (f .eq5 i j h s))))
+      (λ i h. least-y y (made y x) made-fits i (v i) h .0 (λ j s. rw (made-slot y x i h, made-slot y x j (s .0)) at (f .eq4 i j h s)))
+      (λ i j h s. least-z y (made y x) made-fits i j (z i j) h s .0 (rw (made-slot y x i h, made-slot y x j (s .0)) at (f .eq5 i j h s))))
 
--- a feasible point gives an allowed row with the same slots that costs at most the objective
+-- a feasible point gives a fitting row with the same slots that costs at most the objective
 pub feasible-row : (y : Yard) (x : ℕ → ℕ → ℕ) (v : ℕ → ℕ) (z : ℕ → ℕ → ℕ) → Feasible y x v z
-    → (row : List ℕ) × T (allowed y row)
+    → (row : List ℕ) × T (fitting y row)
     × ((i t : ℕ) → i < y .trains → t < y .slots → x i (suc t) ≡ chosen row i (suc t))
     × (cost y row ≤ objective y v z)
-feasible-row y x v z f = (made y x, made-allowed y x v z f, λ i t h. made-given y x v z f i h .2 t, made-cost y x v z f)
+feasible-row y x v z f = (made y x, made-fits y x v z f, λ i t h. made-given y x v z f i h .2 t, made-cost y x v z f)
 
 -- no feasible point has a smaller objective than the best plan's cost
 pub best-optimal : (y : Yard) (row : List ℕ) → Best y row → (x : ℕ → ℕ → ℕ) (v : ℕ → ℕ) (z : ℕ → ℕ → ℕ) → Feasible y x v z
     → cost y row ≤ objective y v z
 best-optimal y row b x v z f =
     let (other, ok, same, cheap) = feasible-row y x v z f in
-    le-trans (b .least other ok) cheap
+    le-trans (b .least other (fits-allowed y other ok)) cheap

@@ -4,7 +4,7 @@
 -- Position k of the papers is the index k - 1 here; slots count from 1. A row is the list of the positions' slots.
 -- Assumes nothing.
 use mathlib.Core.Path.{_≡_}
-use mathlib.Core.Bool.{Bool, cond, _&&_}
+use mathlib.Core.Bool.{Bool, cond, _&&_, _||_}
 use mathlib.Core.List.{List}
 use Prim.Native.Nat.{ℕ, suc, _+_, _-_, _*_, _≤_}
 use lib.Dec.{T, ltb, leb, eqb}
@@ -121,13 +121,18 @@ load n row t = count n λ i. eqb (slotOf row i) t
 unfoldable pub roomy : ℕ → ℕ → List ℕ → ℕ → Bool
 roomy n tracks row t = leb (load n row t) tracks
 
--- a slot for each position, (2); each in its window, (12); and room in each slot, (3)
-unfoldable pub allowed : Yard → List ℕ → Bool
-allowed y row =
+-- the published conditions: a slot for each position, (2); each in its window, (12); and room in each slot, (3). What speaks of the paper's
+-- program or of overbooked intervals cites these.
+unfoldable pub fitting : Yard → List ℕ → Bool
+fitting y row =
     eqb (length row) (y .trains)
     && each (y .trains) (inSlots (y .slots) row)
     && each (y .trains) (inWindow (y .first) (y .last) row)
     && each (y .slots) λ t. roomy (y .trains) (y .tracks) row (suc t)
+
+-- the rows that planning chooses from
+unfoldable pub allowed : Yard → List ℕ → Bool
+allowed y row = fitting y row
 
 -- ---- the order of rows of equal cost
 
@@ -139,6 +144,10 @@ slotMask n row t = mask n λ i. eqb (slotOf row i) t
 unfoldable pub lower : ℕ → (ℕ → ℕ) → (ℕ → ℕ) → Bool
 lower k f g = some k λ t. ltb (f t) (g t) && each t λ u. eqb (f u) (g u)
 
+-- a key before an order: the smaller key, or equal keys and before in the order
+unfoldable pub byKey : {X : Type 0} → (X → ℕ) → (X → X → Bool) → X → X → Bool
+byKey key before r s = ltb (key r) (key s) || (eqb (key r) (key s) && before r s)
+
 -- r comes before s (01): it has the larger set number at the lowest slot where their set numbers differ
 unfoldable pub precedes : Yard → List ℕ → List ℕ → Bool
 precedes y r s = lower (y .slots) (λ t. slotMask (y .trains) s (suc t)) (λ t. slotMask (y .trains) r (suc t))
@@ -149,7 +158,10 @@ pub record Best (y : Yard) (row : List ℕ) : Type 0 where
   pub least : (other : List ℕ) → T (allowed y other) → cost y row ≤ cost y other
   pub first : (other : List ℕ) → T (allowed y other) → cost y other ≡ cost y row → T (precedes y other row) → ⊥
 
--- no row is allowed
+-- some row is allowed; none is
+abbrev pub SomeRow : Yard → Type 0
+SomeRow y = (row : List ℕ) × T (allowed y row)
+
 abbrev pub NoRow : Yard → Type 0
 NoRow y = (row : List ℕ) → T (allowed y row) → ⊥
 

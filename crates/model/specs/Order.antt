@@ -15,7 +15,7 @@ use Rattle.fold.specs.Test.{of-true, of-false, same-test, both, both-of, left, 
 use Rattle.fold.specs.Counting.{le-or-lt}
 use Rattle.fold.specs.Fold
 use Rattle.fold.specs.Fold.{each, each-at, each-i, some-at, some-of}
-use Rattle.model.specs.Model.{lower}
+use Rattle.model.specs.Model.{lower, byKey}
 
 -- of two values not both come before the other, and not coming before is transitive
 pub record Order {X : Type 0} (before : X → X → Bool) : Type 0 where
@@ -34,9 +34,6 @@ module _ {X : Type 0} (before : X → X → Bool) (o : Order before) where
   along f = record { asym = λ r s. o .asym (f r) (f s); through = λ r s u. o .through (f r) (f s) (f u) }
 
 -- ---- a key before an order: the smaller key, or equal keys and before in the order
-
-unfoldable pub byKey : {X : Type 0} → (X → ℕ) → (X → X → Bool) → X → X → Bool
-byKey key before r s = ltb (key r) (key s) || (eqb (key r) (key s) && before r s)
 
 module _ {X : Type 0} (key : X → ℕ) (before : X → X → Bool) where
   pub key-cases : (r s : X) → T (byKey key before r s) → (key r < key s) ⊎ ((key r ≡ key s) × T (before r s))

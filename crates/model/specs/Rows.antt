@@ -1,4 +1,4 @@
--- Allowed rows: the test as a record of statements, and the complete list of all rows of n slots in 1..m.
+-- Fitting and allowed rows: the test as a record of statements, and the complete list of all rows of n slots in 1..m.
 -- Assumes nothing.
 use mathlib.Core.Path.{_≡_, refl, sym, subst}
 use mathlib.Core.Bool.{Bool, _&&_}
@@ -12,11 +12,11 @@ use lib.ListN.{length}
 use borrow.Author.Tests.{eq-eqb}
 use Rattle.fold.specs.Test.{of-true, both, both-of}
 use Rattle.fold.specs.Fold.{each, each-at, each-i}
-use Rattle.model.specs.Model.{Yard, firstSlot, lastSlot, slotOf, inSlots, inWindow, load, roomy, allowed}
+use Rattle.model.specs.Model.{Yard, firstSlot, lastSlot, slotOf, inSlots, inWindow, load, roomy, fitting, allowed}
 
--- ---- what the test of an allowed row says
+-- ---- what the test of a fitting row says
 
-pub record Allowed (y : Yard) (row : List ℕ) : Type 0 where
+pub record Fitting (y : Yard) (row : List ℕ) : Type 0 where
   pub long : length row ≡ y .trains
   pub slotted : (i : ℕ) → i < y .trains → (1 ≤ slotOf row i) × (slotOf row i ≤ y .slots)
   pub windowed : (i : ℕ) → i < y .trains → (firstSlot y i ≤ slotOf row i) × (slotOf row i ≤ lastSlot y i)
@@ -42,23 +42,23 @@ module _ (y : Yard) (row : List ℕ) where
   abbrev pub spacious : Bool
   spacious = each (y .slots) λ t. roomy (y .trains) (y .tracks) row (suc t)
 
-  -- the four tests of an allowed row, apart and together
-  pub allowed-tests : T (allowed y row) → T long × T slotted × T windowed × T spacious
-  unfolding allowed
-  allowed-tests t =
+  -- the four tests of a fitting row, apart and together
+  pub fitting-tests : T (fitting y row) → T long × T slotted × T windowed × T spacious
+  unfolding fitting
+  fitting-tests t =
       let (p, room) = both-of (long && slotted && windowed) spacious t in
       let (q, inside) = both-of (long && slotted) windowed p in
       let (a, b) = both-of long slotted q in
       (a, b, inside, room)
 
-  pub tests-allowed : T long → T slotted → T windowed → T spacious → T (allowed y row)
-  unfolding allowed
-  tests-allowed a b inside room = both (long && slotted && windowed) spacious (both (long && slotted) windowed (both long slotted a b) inside) room
+  pub tests-fitting : T long → T slotted → T windowed → T spacious → T (fitting y row)
+  unfolding fitting
+  tests-fitting a b inside room = both (long && slotted && windowed) spacious (both (long && slotted) windowed (both long slotted a b) inside) room
 
-  pub allowed-is : T (allowed y row) → Allowed y row
+  pub fitting-is : T (fitting y row) → Fitting y row
   unfolding inSlots inWindow roomy
-  allowed-is t =
-      let (a, b, inside, room) = allowed-tests t in
+  fitting-is t =
+      let (a, b, inside, room) = fitting-tests t in
       record {
         long = eqb→eq (length row) (y .trains) a;
         slotted = λ i h. both-le 1 (slotOf row i) (slotOf row i) (y .slots) (each-at (y .trains) (inSlots (y .slots) row) b i h);
@@ -66,13 +66,27 @@ module _ (y : Yard) (row : List ℕ) where
         room = λ t h. leb→le (load (y .trains) row (suc t)) (y .tracks) (each-at (y .slots) (λ t. roomy (y .trains) (y .tracks) row (suc t)) room t h);
       }
 
-  pub is-allowed : Allowed y row → T (allowed y row)
+  pub is-fitting : Fitting y row → T (fitting y row)
   unfolding inSlots inWindow roomy
-  is-allowed a =
-      tests-allowed (of-true (eq-eqb (length row) (y .trains) (a .long)))
+  is-fitting a =
+      tests-fitting (of-true (eq-eqb (length row) (y .trains) (a .long)))
       (each-i (y .trains) (inSlots (y .slots) row) (λ i h. le-both 1 (slotOf row i) (slotOf row i) (y .slots) (a .slotted i h)))
       (each-i (y .trains) (inWindow (y .first) (y .last) row) (λ i h. le-both (firstSlot y i) (slotOf row i) (slotOf row i) (lastSlot y i) (a .windowed i h)))
       (each-i (y .slots) (λ t. roomy (y .trains) (y .tracks) row (suc t)) (λ t h. le→leb (load (y .trains) row (suc t)) (y .tracks) (a .room t h)))
+
+  -- ---- allowed rows are fitting rows. That the other way round holds too is used where a further condition of `allowed` will have its place:
+  -- by nothing else.
+
+  pub allowed-fits : T (allowed y row) → T (fitting y row)
+  unfolding allowed
+  allowed-fits t = t
+
+  pub fits-allowed : T (fitting y row) → T (allowed y row)
+  unfolding allowed
+  fits-allowed t = t
+
+  pub allowed-is : T (allowed y row) → Fitting y row
+  allowed-is t = fitting-is (allowed-fits t)
 
 -- ---- every row of n slots in 1..m, and that none is missing
 

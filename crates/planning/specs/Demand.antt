@@ -19,9 +19,9 @@ use Prim.Native.Nat.{ℕ, _*_, _^_, _≤_, _<_}
 use native.Mathlib.Omega.{arith}
 use lib.Dec.{T, leb, leb→le, le→leb}
 use lib.ListN.{length, take, drop}
-use lib.Seq.{take-append-seam, drop-append-seam}
 use Rattle.fold.specs.Test.{is-true, is-false, both, both-of}
-use Rattle.model.specs.Model.{Yard, Outcome, outcome, boundInside, Best, NoRow, FirstOverbooked}
+use Rattle.fold.specs.Listed.{take-front, drop-front}
+use Rattle.model.specs.Model.{Yard, Outcome, outcome, boundInside, Best, SomeRow, NoRow, FirstOverbooked}
 use Rattle.model.specs.Rows.{allowed-is}
 use Rattle.model.specs.BestOf.{bestOf, is-best, is-none}
 use Rattle.model.specs.Overbooked.{Interval, firstOverbooked, SaysFirst, first-says}
@@ -30,7 +30,7 @@ use Rattle.day.specs.AnswerLaws.{gives-same}
 use Rattle.day.specs.Sound.{sound}
 use Rattle.day.specs.SoundLaws.{sound-is}
 use Rattle.day.specs.declared.Limits.{Limits}
-use Rattle.feasibility.specs.Verdict.{SomeRow, none-row}
+use Rattle.feasibility.specs.Verdict.{no-row-over}
 use Rattle.planning.specs.Planning.{costWords, choiceWords, suffices, begins, bestAnswer, carriedBy, planned, placed, rowAfter, openWords, Stays}
 use Rattle.planning.specs.Answers.{planned-begun, row-begun}
 
@@ -97,20 +97,18 @@ module _ (l : Limits) (y : Yard) (costs choices : ℕ) (row : List ℕ)
   from-best : (r : List ℕ) (o : Outcome) → bestOf y ≡ some r → said ≡ gives o → Given o
   from-best r o e g =
       let (a, b, is, long) = some-best r e in
-      let front : take (y .trains) after ≡ r = ap (take (y .trains)) is ∙ subst (λ k. take k (r ++ drop (y .trains) row) ≡ r) long (take-append-seam r (drop (y .trains) row)) in
+      let front : take (y .trains) after ≡ r = ap (take (y .trains)) is ∙ take-front r (drop (y .trains) row) long in
       let same : outcome y r ≡ o = gives-same (sym a ∙ g) in
       record {
         best = subst (Best y) (sym front) b;
         numbers = sym same ∙ ap (outcome y) (sym front);
-        beyond = ap (drop (y .trains)) is ∙ subst (λ k. drop k (r ++ drop (y .trains) row) ≡ drop (y .trains) row) long (drop-append-seam r (drop (y .trains) row));
+        beyond = ap (drop (y .trains)) is ∙ drop-front r (drop (y .trains) row) long;
       }
 
   nine : bestOf y ≡ none → Nine
-  nine e = go (firstOverbooked y) refl
-    where
-      go : (w : Option Interval) → firstOverbooked y ≡ w → Nine
-      go none f = absurd (let (r, a) = none-row y (sound-is l y isSound .windows) f in is-none y e r a)
-      go (some w) f = record {
+  nine e =
+      let (w, f) = no-row-over y (sound-is l y isSound .windows) (is-none y e) in
+      record {
         first = w .first;
         last = w .last;
         named = subst (SaysFirst y) f (first-says y);

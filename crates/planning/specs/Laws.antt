@@ -9,17 +9,17 @@ use native.Mathlib.Omega.{arith}
 use lib.Dec.{T}
 use lib.ListN.{length, getD, take, drop, take-append-drop}
 use lib.Seq.{length-take-le}
-use Rattle.model.specs.Model.{Yard, Outcome, outcome, boundInside}
+use Rattle.model.specs.Model.{Yard, Outcome, outcome, boundInside, SomeRow}
 use Rattle.model.specs.BestOf.{bestOf, best-is, none-is}
 use Rattle.model.specs.Overbooked.{Interval, firstOverbooked}
 use Rattle.day.specs.Answer.{Answer, gives, refuses}
 use Rattle.day.specs.Sound.{dayLimits, sound}
 use Rattle.day.specs.Most.{cost-most}
 use Rattle.day.specs.declared.Limits.{Limits}
-use Rattle.feasibility.specs.Verdict.{SomeRow, some-no-row}
+use Rattle.feasibility.specs.Verdict.{some-no-row}
 use Rattle.optimum.specs.Layers.{Solved}
 use Rattle.optimum.specs.Chosen.{rowIn, Leads}
-use Rattle.staging.specs.Tables.{servable, slotCost, noCost}
+use Rattle.staging.specs.Tables.{servable, stageKey, noCost}
 use Rattle.staging.specs.Reachable.{Reachable}
 use Rattle.staging.specs.Solution.{solution-leads, solution-best, solution-some}
 use Rattle.planning.specs.Planning.{costWords, choiceWords, bestAnswer, suffices, planned, begins, placed, rowAfter, openWords, Stays}
@@ -27,7 +27,7 @@ use Rattle.planning.specs.Planning.{costWords, choiceWords, bestAnswer, 
 -- ---- the best row behind the solved table
 
 module _ (y : Yard) {N : ℕ} {a₀ c₀ a c : List ℕ} (s : T (sound dayLimits y)) (size : N ≡ 2 ^ y .trains) (some-row : SomeRow y)
-    (solved : Solved (servable y) (slotCost y) noCost (Reachable N (y .tracks)) N (y .slots) 0 a₀ c₀ a c) where
+    (solved : Solved (servable y) (stageKey y) noCost (Reachable N (y .tracks)) N (y .slots) 0 a₀ c₀ a c) where
   found : getD a (N - 1) 0 < noCost
   found = solution-some y size solved (some-row .0) (some-row .1) (omega (arith, cost-most y (some-row .0) s))
 

@@ -34,7 +34,7 @@ choiceWords y = y .slots * 2 ^ y .trains
 
 -- the areas and the row are long enough
 abbrev pub suffices : Yard → ℕ → ℕ → ℕ → Bool
-suffices y costs choices slots = leb (costWords y) costs && leb (choiceWords y) choices && leb (y .trains) slots
+suffices y costs choices bytes = leb (costWords y) costs && leb (choiceWords y) choices && leb (y .trains) bytes
 
 -- ---- the answer
 
@@ -48,16 +48,16 @@ bestAnswer y (some row) = gives (outcome y row)
 bestAnswer y none = refuses 9 (carriedBy y (firstOverbooked y))
 
 abbrev pub planChecks : Limits → Yard → ℕ → ℕ → ℕ → List Check
-planChecks l y costs choices slots = must (sound l y) 8 (0 ∷ []) ∷ must (suffices y costs choices slots) 10 (0 ∷ []) ∷ []
+planChecks l y costs choices bytes = must (sound l y) 8 (0 ∷ []) ∷ must (suffices y costs choices bytes) 10 (0 ∷ []) ∷ []
 
 unfoldable pub planned : Limits → Yard → ℕ → ℕ → ℕ → Answer Outcome
-planned l y costs choices slots = checked (planChecks l y costs choices slots) (bestAnswer y (bestOf y))
+planned l y costs choices bytes = checked (planChecks l y costs choices bytes) (bestAnswer y (bestOf y))
 
 -- ---- lent memory
 
 -- both checks hold
 abbrev pub begins : Limits → Yard → ℕ → ℕ → ℕ → Bool
-begins l y costs choices slots = sound l y && suffices y costs choices slots
+begins l y costs choices bytes = sound l y && suffices y costs choices bytes
 
 -- the best plan in the first n bytes of the row
 abbrev pub placed : Option (List ℕ) → List ℕ → List ℕ

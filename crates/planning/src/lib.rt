@@ -10,9 +10,9 @@ ghost use lib.Dec.{T, leb};
 ghost use lib.ListN.{length};
 ghost use Rattle.day.specs.Sound.{dayLimits, yard, sound};
 ghost use Rattle.planning.specs.Planning.{answer, costWords, choiceWords, planned, begins, rowAfter, openWords, Stays};
-ghost use Rattle.feasibility.specs.Verdict.{SomeRow};
+ghost use Rattle.model.specs.Model.{SomeRow};
 ghost use Rattle.optimum.specs.Layers.{Solved};
-ghost use Rattle.staging.specs.Tables.{servable, slotCost, noCost};
+ghost use Rattle.staging.specs.Tables.{servable, stageKey, noCost};
 ghost use Rattle.staging.specs.Reachable.{Reachable};
 ghost use Rattle.planning.specs.Laws.{Placed, Decided};
 use counting::Value;
@@ -46,7 +46,7 @@ fn are_enough(n: usize, slots: u8, size: usize, costs: usize, choices: usize, by
 // reads nothing else.
 fn solve_day(day: Day, cost: &mut [u64], choice: &mut [u16], size: usize)
     requires { ⌜ T (sound dayLimits (yard day)) × ((size ≡ 2 ^ day .trains) × ((size ≤ length (now cost)) × (day .slots * size ≤ length (now choice)))) ⌝ }
-    ensures { λ _. ⌜ Solved (servable (yard day)) (slotCost (yard day)) noCost (Reachable size (day .tracks)) size (day .slots) 0 (now (cost .entry)) (now (choice .entry)) (now (cost .exit)) (now (choice .exit)) ⌝ }
+    ensures { λ _. ⌜ Solved (servable (yard day)) (stageKey (yard day)) noCost (Reachable size (day .tracks)) size (day .slots) 0 (now (cost .entry)) (now (choice .entry)) (now (cost .exit)) (now (choice .exit)) ⌝ }
 {
     let boxes = day.boxes;
     let first = day.first;

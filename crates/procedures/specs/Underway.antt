@@ -15,8 +15,8 @@ use borrow.Author.Tests.{eq-eqb}
 use Rattle.fold.specs.Test.{of-true, both-of}
 use Rattle.fold.specs.Fold.{lowest-passes}
 use Rattle.fold.specs.Counting.{same-or, count-zero, count-more, count-le}
-use Rattle.model.specs.Model.{Yard, received, firstSlot, lastSlot, slotOf, load, allowed, inTime}
-use Rattle.model.specs.Rows.{is-allowed, both-le}
+use Rattle.model.specs.Model.{Yard, received, firstSlot, lastSlot, slotOf, load, fitting, inTime}
+use Rattle.model.specs.Rows.{is-fitting, both-le}
 use Rattle.procedures.specs.Procedures.{trackFree, suits, waits, earliest, takeEarliest, comeTo, firstCome, priority, select, serveNext, fillTo, servedTo, myopic}
 
 pub record Underway (y : Yard) (row : List ℕ) : Type 0 where
@@ -85,13 +85,13 @@ none-underway y =
           );
     }
 
--- ---- no train waits: the row is allowed
+-- ---- no train waits: the row fits
 
-pub complete-allowed : (y : Yard) (row : List ℕ) → ((i : ℕ) → i < y .trains → (1 ≤ firstSlot y i) × (lastSlot y i ≤ y .slots))
-    → Underway y row → ((i : ℕ) → i < y .trains → T (waits row i) → ⊥) → T (allowed y row)
+pub complete-fits : (y : Yard) (row : List ℕ) → ((i : ℕ) → i < y .trains → (1 ≤ firstSlot y i) × (lastSlot y i ≤ y .slots))
+    → Underway y row → ((i : ℕ) → i < y .trains → T (waits row i) → ⊥) → T (fitting y row)
 unfolding waits
-complete-allowed y row windows u complete =
-    is-allowed y row
+complete-fits y row windows u complete =
+    is-fitting y row
     record {
       long = u .long;
       slotted = λ i h. let w = inside i h in (omega (arith, w .0, windows i h .0), omega (arith, w .1, windows i h .1));

@@ -1,7 +1,7 @@
 -- What the loops over sets use: which sets a choice leaves, what a cell reads, where its choice stands, which cells need no walk, and the
 -- trains that may still be served.
 -- Assumes nothing.
-use mathlib.Core.Path.{_≡_, subst}
+use mathlib.Core.Path.{_≡_, ap, _∙_, subst}
 use mathlib.Core.Bool.{true, not, _||_}
 use mathlib.Core.Logic.{⊎-elim}
 use mathlib.Core.List.{List}
@@ -20,29 +20,30 @@ use Rattle.optimum.specs.Workspace.{at}
 use Rattle.optimum.specs.Stages.{tab, choice, tab-small}
 use Rattle.optimum.specs.Direct.{crowded-none, outside-none}
 use Rattle.optimum.specs.Layers.{Table}
-use Rattle.staging.specs.Tables.{fromTables, costFromTables, noCost}
+use Rattle.staging.specs.Tables.{Tables, noCost, fromTables, keyFromTables}
 use Rattle.staging.specs.Reachable.{Reachable, reachable-next}
+use Rattle.cells.specs.declared.Pick.{Pick}
 use Rattle.cells.specs.Given.{Given, Rests}
 use Rattle.cells.specs.Laws.{serve-open, serve-priced, served-fits}
 use Rattle.solving.specs.Given.{Room, Later}
 
-module _ {size slots : ℕ} {need late price opens : List ℕ} (g : Given size slots need late price opens) where
+module _ {size slots : ℕ} {x : Tables} (g : Given size slots x) where
   -- where no set that may be served has more trains than tracks, a choice from what can remain leaves what can remain
-  pub leaves-reachable : {tracks j r : ℕ} (s : ℕ) → Room size tracks price → r < size → Reachable size tracks j r → Sub s r
-      → T (fromTables price opens (suc j) r s) → Reachable size tracks (suc j) (r - s)
+  pub leaves-reachable : {tracks j r : ℕ} (s : ℕ) → Room size tracks (x .price) → r < size → Reachable size tracks j r → Sub s r
+      → T (fromTables x (suc j) r s) → Reachable size tracks (suc j) (r - s)
   leaves-reachable {j = j} {r} s room l h hs may =
-      reachable-next s h hs (room .enough s (omega (arith, sub-le s r hs)) (serve-priced price opens (suc j) r s may))
+      reachable-next s h hs (room .enough s (omega (arith, sub-le s r hs)) (serve-priced x (suc j) r s may))
 
   -- the next slot's table, of at most 7 slots, is what a cell reads
-  pub table-rests : {tracks j x r : ℕ} {a : List ℕ}
-      → Table (fromTables price opens) (costFromTables need late price) noCost (Reachable size tracks) x (slots - suc j) (suc j) a
-      → Room size tracks price → Reachable size tracks j r → j < slots → r < x → x ≤ size → size ≤ length a → Rests price opens a j r
-  table-rests {tracks} {j} {x} {r} {a} h room here l q n b =
+  pub table-rests : {tracks j k r : ℕ} {a : List ℕ}
+      → Table (fromTables x) (keyFromTables x) noCost (Reachable size tracks) k (slots - suc j) (suc j) a
+      → Room size tracks (x .price) → Reachable size tracks j r → j < slots → r < k → k ≤ size → size ≤ length a → Rests x a j r
+  table-rests {tracks} {j} {k} {r} {a} h room here l q n b =
       record {
         long = omega arith;
         low = λ s hs may v.
-            let ok = fromTables price opens in
-            let w = costFromTables need late price in
+            let ok = fromTables x in
+            let w = keyFromTables x in
             let i : ℕ = r - s in
             let e : at a i ≡ tab ok w noCost (slots - suc j) (suc (suc j)) i = h .holds i (omega arith) (leaves-reachable s room (omega arith) here hs may) in
             let b : tab ok w noCost (slots - suc j) (suc (suc j)) i ≤ (slots - suc j) * 2 ^ 32 =
@@ -59,12 +60,12 @@ module _ {size slots : ℕ} {need late price opens : List ℕ} (g : Given size s
   -- ---- cells that are known without a walk
 
   -- a set of more trains than the slots left have tracks for
-  pub crowded-cell : {tracks : ℕ} (k t r : ℕ) → Room size tracks price → r < size → tracks * k < ones r
-      → (noCost ≡ tab (fromTables price opens) (costFromTables need late price) noCost k t r)
-      × (0 ≡ choice (fromTables price opens) (costFromTables need late price) noCost k t r)
+  pub crowded-cell : {tracks : ℕ} (k t r : ℕ) → Room size tracks (x .price) → r < size → tracks * k < ones r
+      → (noCost ≡ tab (fromTables x) (keyFromTables x) noCost k t r)
+      × (0 ≡ choice (fromTables x) (keyFromTables x) noCost k t r)
   crowded-cell {tracks} k t r room l c =
-      crowded-none (fromTables price opens) (costFromTables need late price) noCost r tracks
-      (λ t q s b hs may. room .enough s (omega (arith, sub-le s q hs)) (serve-priced price opens t q s may)) k t r (omega arith)
+      crowded-none (fromTables x) (keyFromTables x) noCost r tracks
+      (λ t q s b hs may. room .enough s (omega (arith, sub-le s q hs)) (serve-priced x t q s may)) k t r (omega arith)
       (omega (arith, mul-comm tracks k))
 
 -- ---- the trains that may still be served, from the last slot down
@@ -84,23 +85,27 @@ later-next {j = j} {later} {opens} k h e =
     }
 
 -- a set with a train that may be served no more
-pub closed-cell : {slots later : ℕ} (need late price opens : List ℕ) (j r : ℕ) → Later slots j later opens → j ≤ slots → (Sub r later → ⊥)
-    → (noCost ≡ tab (fromTables price opens) (costFromTables need late price) noCost (slots - j) (suc j) r)
-    × (0 ≡ choice (fromTables price opens) (costFromTables need late price) noCost (slots - j) (suc j) r)
-closed-cell {slots} {later} need late price opens j r h l not =
-    outside-none (fromTables price opens) (costFromTables need late price) noCost (suc j) (suc slots) later inside (slots - j) (suc j) r (omega arith) (omega arith) not
+pub closed-cell : {slots later : ℕ} (x : Tables) (j r : ℕ) → Later slots j later (x .opens) → j ≤ slots → (Sub r later → ⊥)
+    → (noCost ≡ tab (fromTables x) (keyFromTables x) noCost (slots - j) (suc j) r)
+    × (0 ≡ choice (fromTables x) (keyFromTables x) noCost (slots - j) (suc j) r)
+closed-cell {slots} {later} x j r h l not =
+    outside-none (fromTables x) (keyFromTables x) noCost (suc j) (suc slots) later inside (slots - j) (suc j) r (omega arith) (omega arith) not
   where
-    inside : (t q s : ℕ) → suc j ≤ t → t < suc slots → T (fromTables price opens t q s) → Sub s later
+    inside : (t q s : ℕ) → suc j ≤ t → t < suc slots → T (fromTables x t q s) → Sub s later
     inside zero q s a b may = absurd (omega arith)
-    inside (suc i) q s a b may = sub-trans s (at opens i) later (serve-open price opens i q s may) (h .holds i (omega arith) (omega arith))
+    inside (suc i) q s a b may = sub-trans s (at (x .opens) i) later (serve-open x i q s may) (h .holds i (omega arith) (omega arith))
 
 -- the code's test: a set for which there is no room, or with a train that may be served no more
-pub hopeless-cell : {size slots tracks later : ℕ} {need late price opens : List ℕ} (j r : ℕ) → Given size slots need late price opens → Room size tracks price
-    → Later slots j later opens → j ≤ slots → r < size → (ltb (tracks * (slots - j)) (ones r) || not (eqb (bitAnd r later) r)) ≡ true
-    → (noCost ≡ tab (fromTables price opens) (costFromTables need late price) noCost (slots - j) (suc j) r)
-    × (0 ≡ choice (fromTables price opens) (costFromTables need late price) noCost (slots - j) (suc j) r)
-hopeless-cell {slots = slots} {tracks} {later} {need} {late} {price} {opens} j r g room h l in-size e =
+pub hopeless-cell : {size slots tracks later : ℕ} {x : Tables} (j r : ℕ) → Given size slots x → Room size tracks (x .price)
+    → Later slots j later (x .opens) → j ≤ slots → r < size → (ltb (tracks * (slots - j)) (ones r) || not (eqb (bitAnd r later) r)) ≡ true
+    → (noCost ≡ tab (fromTables x) (keyFromTables x) noCost (slots - j) (suc j) r)
+    × (0 ≡ choice (fromTables x) (keyFromTables x) noCost (slots - j) (suc j) r)
+hopeless-cell {slots = slots} {tracks} {later} {x} j r g room h l in-size e =
     let crowded = ltb (tracks * (slots - j)) (ones r) in
     ⊎-elim (λ a. crowded-cell g (slots - j) (suc j) r room in-size (ltb→lt (tracks * (slots - j)) (ones r) a))
-    (λ a. closed-cell need late price opens j r h l (λ q. not-of (eqb (bitAnd r later) r) a (of-true (eq-eqb (bitAnd r later) r q))))
+    (λ a. closed-cell x j r h l (λ q. not-of (eqb (bitAnd r later) r) a (of-true (eq-eqb (bitAnd r later) r q))))
     (either-of crowded (not (eqb (bitAnd r later) r)) (of-true e))
+
+-- the value and the set of a pick, from the pick that it is
+pub same-pick : {p q : Pick} {v u : ℕ} → p ≡ q → (q .value ≡ v) × (q .set ≡ u) → (p .value ≡ v) × (p .set ≡ u)
+same-pick e h = (ap (λ x. x .value) e ∙ h .0, ap (λ x. x .set) e ∙ h .1)

@@ -4,11 +4,11 @@
 // says. Over slices, for up to 12 trains and 8 slots. Assumes nothing.
 ghost use Prim.Native.Nat.{_+_, _-_, _*_, _≤_, _<_};
 ghost use lib.ListN.{length};
-ghost use Rattle.optimum.specs.Layers.{Every, Solved};
-ghost use Rattle.staging.specs.Tables.{fromTables, costFromTables, noCost};
+ghost use Rattle.optimum.specs.Layers.{Every};
+ghost use Rattle.staging.specs.Tables.{tablesOf};
 ghost use Rattle.staging.specs.Reachable.{Reachable};
 ghost use Rattle.cells.specs.Given.{Given};
-ghost use Rattle.solving.specs.Given.{Room, Later};
+ghost use Rattle.solving.specs.Given.{Room, Later, SolvedFrom};
 use cells::Pick;
 
 // The table and the choices of the last slot: one set for each that remains.
@@ -22,8 +22,8 @@ fn fill_last(
     slots: usize,
     size: usize,
 )
-    requires { ⌜ Given size slots (now need) (now late) (now price) (now opens) × (size ≤ length (now cost)) × (slots * size ≤ length (now choice)) ⌝ }
-    ensures { λ _. ⌜ Solved (fromTables (now (price .entry)) (now (opens .entry))) (costFromTables (now (need .entry)) (now (late .entry)) (now (price .entry))) noCost Every size slots (slots - 1) (now (cost .entry)) (now (choice .entry)) (now (cost .exit)) (now (choice .exit)) ⌝ }
+    requires { ⌜ Given size slots (tablesOf (now need) (now late) (now price) (now opens)) × (size ≤ length (now cost)) × (slots * size ≤ length (now choice)) ⌝ }
+    ensures { λ _. ⌜ SolvedFrom (tablesOf (now (need .entry)) (now (late .entry)) (now (price .entry)) (now (opens .entry))) Every size slots (slots - 1) (now (cost .entry)) (now (choice .entry)) (now (cost .exit)) (now (choice .exit)) ⌝ }
 {
     let j = slots - 1;
     let mut r = size;
@@ -52,8 +52,8 @@ fn fill_slot(
     slots: usize,
     size: usize,
 )
-    requires { ⌜ Given size slots (now need) (now late) (now price) (now opens) × Room size tracks (now price) × Later slots j later (now opens) × (0 < j) × (j < slots) × (size ≤ length (now cost)) × (slots * size ≤ length (now choice)) × Solved (fromTables (now price) (now opens)) (costFromTables (now need) (now late) (now price)) noCost (Reachable size tracks) size slots (j + 1) (now cost) (now choice) (now cost) (now choice) ⌝ }
-    ensures { λ _. ⌜ Solved (fromTables (now (price .entry)) (now (opens .entry))) (costFromTables (now (need .entry)) (now (late .entry)) (now (price .entry))) noCost (Reachable size tracks) size slots j (now (cost .entry)) (now (choice .entry)) (now (cost .exit)) (now (choice .exit)) ⌝ }
+    requires { ⌜ Given size slots (tablesOf (now need) (now late) (now price) (now opens)) × Room size tracks (now price) × Later slots j later (now opens) × (0 < j) × (j < slots) × (size ≤ length (now cost)) × (slots * size ≤ length (now choice)) × SolvedFrom (tablesOf (now need) (now late) (now price) (now opens)) (Reachable size tracks) size slots (j + 1) (now cost) (now choice) (now cost) (now choice) ⌝ }
+    ensures { λ _. ⌜ SolvedFrom (tablesOf (now (need .entry)) (now (late .entry)) (now (price .entry)) (now (opens .entry))) (Reachable size tracks) size slots j (now (cost .entry)) (now (choice .entry)) (now (cost .exit)) (now (choice .exit)) ⌝ }
 {
     let room = tracks * ((slots - j) as u32);
     let gone = tracks * (j as u32);
@@ -90,8 +90,8 @@ fn fill_first(
     slots: usize,
     size: usize,
 )
-    requires { ⌜ Given size slots (now need) (now late) (now price) (now opens) × Room size tracks (now price) × (size ≤ length (now cost)) × (slots * size ≤ length (now choice)) × Solved (fromTables (now price) (now opens)) (costFromTables (now need) (now late) (now price)) noCost (Reachable size tracks) size slots 1 (now cost) (now choice) (now cost) (now choice) ⌝ }
-    ensures { λ _. ⌜ Solved (fromTables (now (price .entry)) (now (opens .entry))) (costFromTables (now (need .entry)) (now (late .entry)) (now (price .entry))) noCost (Reachable size tracks) size slots 0 (now (cost .entry)) (now (choice .entry)) (now (cost .exit)) (now (choice .exit)) ⌝ }
+    requires { ⌜ Given size slots (tablesOf (now need) (now late) (now price) (now opens)) × Room size tracks (now price) × (size ≤ length (now cost)) × (slots * size ≤ length (now choice)) × SolvedFrom (tablesOf (now need) (now late) (now price) (now opens)) (Reachable size tracks) size slots 1 (now cost) (now choice) (now cost) (now choice) ⌝ }
+    ensures { λ _. ⌜ SolvedFrom (tablesOf (now (need .entry)) (now (late .entry)) (now (price .entry)) (now (opens .entry))) (Reachable size tracks) size slots 0 (now (cost .entry)) (now (choice .entry)) (now (cost .exit)) (now (choice .exit)) ⌝ }
 {
     let r = size - 1;
     let p = cells::cheapest(cost, need, late, price, opens, 0, r);
@@ -113,8 +113,8 @@ pub fn solve(
     slots: usize,
     size: usize,
 )
-    requires { ⌜ Given size slots (now need) (now late) (now price) (now opens) × Room size tracks (now price) × (size ≤ length (now cost)) × (slots * size ≤ length (now choice)) ⌝ }
-    ensures { λ _. ⌜ Solved (fromTables (now (price .entry)) (now (opens .entry))) (costFromTables (now (need .entry)) (now (late .entry)) (now (price .entry))) noCost (Reachable size tracks) size slots 0 (now (cost .entry)) (now (choice .entry)) (now (cost .exit)) (now (choice .exit)) ⌝ }
+    requires { ⌜ Given size slots (tablesOf (now need) (now late) (now price) (now opens)) × Room size tracks (now price) × (size ≤ length (now cost)) × (slots * size ≤ length (now choice)) ⌝ }
+    ensures { λ _. ⌜ SolvedFrom (tablesOf (now (need .entry)) (now (late .entry)) (now (price .entry)) (now (opens .entry))) (Reachable size tracks) size slots 0 (now (cost .entry)) (now (choice .entry)) (now (cost .exit)) (now (choice .exit)) ⌝ }
 {
     fill_last(cost, choice, need, late, price, opens, slots, size);
     let mut j = slots - 1;

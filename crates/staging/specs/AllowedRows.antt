@@ -13,7 +13,7 @@ use Rattle.fold.specs.Test.{of-true, both, both-of}
 use Rattle.sets.specs.Mask.{has, has-mask, mask-lt, ones-mask}
 use Rattle.sets.specs.Subset.{Sub, subset, sub-mask}
 use Rattle.model.specs.Model.{Yard, firstSlot, lastSlot, slotOf, load, allowed, inTime}
-use Rattle.model.specs.Rows.{both-le, le-both, allowed-is, is-allowed}
+use Rattle.model.specs.Rows.{both-le, le-both, allowed-is, is-fitting, fits-allowed}
 use Rattle.sets.specs.Rest.{sub-has}
 use Rattle.optimum.specs.Rows.{stageSet, Row}
 use Rattle.staging.specs.Tables.{openIn, servable}
@@ -83,13 +83,14 @@ module _ (y : Yard) where
 
     pub row-allowed : DayRow y row → T (allowed y row)
     row-allowed h =
-        is-allowed y row
+        fits-allowed y row
+        (is-fitting y row
         (record {
           long = h .long;
           slotted = h .staged;
           windowed = λ i l. at i l (slotOf row i) refl;
           room = λ j l. served h j l .1;
-        })
+        }))
       where
         at : (i : ℕ) → i < y .trains → (t : ℕ) → slotOf row i ≡ t → InWindow y (slotOf row i) i
         at i l zero e = absurd (omega (arith, h .staged i l))

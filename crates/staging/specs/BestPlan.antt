@@ -8,7 +8,7 @@ use lib.Dec.{T}
 use Rattle.model.specs.Model.{Yard, slotMask, cost, allowed, lower, precedes, Best}
 use Rattle.optimum.specs.Schedules.{Ahead, ahead-not-lower}
 use Rattle.optimum.specs.Rows.{stageSet, worth, BestRow}
-use Rattle.staging.specs.Tables.{servable, slotCost}
+use Rattle.staging.specs.Tables.{servable, stageKey}
 use Rattle.staging.specs.AllowedRows.{DayRow, allowed-row, row-allowed}
 use Rattle.staging.specs.CostBySlot.{worth-cost}
 
@@ -19,10 +19,10 @@ module _ (y : Yard) where
   unfolding precedes lower slotMask
   ahead-precedes row other = ahead-not-lower (y .slots) (λ j. slotMask (y .trains) row (suc j)) (λ j. slotMask (y .trains) other (suc j))
 
-  pub row-cost : {row : List ℕ} → DayRow y row → worth (slotCost y) (y .trains) (y .slots) row ≡ cost y row
+  pub row-cost : {row : List ℕ} → DayRow y row → worth (stageKey y) (y .trains) (y .slots) row ≡ cost y row
   row-cost {row} h = worth-cost y (y .slots) row (h .staged)
 
-  pub best-plan : (row : List ℕ) → BestRow (servable y) (slotCost y) (y .trains) (y .slots) row → Best y row
+  pub best-plan : (row : List ℕ) → BestRow (servable y) (stageKey y) (y .trains) (y .slots) row → Best y row
   best-plan row b =
       record {
         isAllowed = row-allowed y row (b .allowed);

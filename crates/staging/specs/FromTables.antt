@@ -16,70 +16,72 @@ use Rattle.sets.specs.Subset.{Sub, subset, sub-le}
 use Rattle.model.specs.Model.{Yard, received, cost}
 use Rattle.optimum.specs.Layers.{Solved}
 use Rattle.optimum.specs.Agree.{solved-agree}
-use Rattle.staging.specs.Tables.{needing, fromOutside, openIn, servable, slotCost, barred, fromTables, costFromTables}
+use Rattle.staging.specs.Tables.{needing, fromOutside, openIn, servable, slotCost, stageKey, Tables, barred, fromTables, costFromTables, keyFromTables}
 use Rattle.staging.specs.SlotInRow.{rowAround, slot-in-row, split-in-row}
 
 -- the tables of a day, filled for every set of its trains and every slot
-pub record DayTables (y : Yard) (need late price opens : List ℕ) : Type 0 where
-  pub needs : (m : ℕ) → m < 2 ^ y .trains → getD need m 0 ≡ needing (y .trains) (received y) m
-  pub lates : (m : ℕ) → m < 2 ^ y .trains → getD late m 0 ≡ y .revisit * ones m
+pub record DayTables (y : Yard) (x : Tables) : Type 0 where
+  pub needs : (m : ℕ) → m < 2 ^ y .trains → getD (x .need) m 0 ≡ needing (y .trains) (received y) m
+  pub lates : (m : ℕ) → m < 2 ^ y .trains → getD (x .late) m 0 ≡ y .revisit * ones m
   pub prices : (s : ℕ) → s < 2 ^ y .trains
-      → getD price s 0 ≡ cond (leb (ones s) (y .tracks)) (y .split * fromOutside (y .trains) (received y) s) barred
-  pub windows : (j : ℕ) → j < y .slots → getD opens j 0 ≡ openIn (y .trains) (y .first) (y .last) (suc j)
+      → getD (x .price) s 0 ≡ cond (leb (ones s) (y .tracks)) (y .split * fromOutside (y .trains) (received y) s) barred
+  pub windows : (j : ℕ) → j < y .slots → getD (x .opens) j 0 ≡ openIn (y .trains) (y .first) (y .last) (suc j)
   -- no row costs as much as `barred`, the greatest number of 32 bits
   pub cheap : (row : List ℕ) → cost y row < barred
 
-module _ {y : Yard} {need late price opens : List ℕ} (h : DayTables y need late price opens) where
+module _ {y : Yard} {x : Tables} (h : DayTables y x) where
   -- a set has room, or it has none
-  priced : (s : ℕ) → s < 2 ^ y .trains → leb (ones s) (y .tracks) ≡ true → getD price s 0 ≡ y .split * fromOutside (y .trains) (received y) s
+  priced : (s : ℕ) → s < 2 ^ y .trains → leb (ones s) (y .tracks) ≡ true → getD (x .price) s 0 ≡ y .split * fromOutside (y .trains) (received y) s
   priced s l e = h .prices s l ∙ ap (λ b. cond b (y .split * fromOutside (y .trains) (received y) s) barred) e
 
-  roomless : (s : ℕ) → s < 2 ^ y .trains → leb (ones s) (y .tracks) ≡ false → getD price s 0 ≡ barred
+  roomless : (s : ℕ) → s < 2 ^ y .trains → leb (ones s) (y .tracks) ≡ false → getD (x .price) s 0 ≡ barred
   roomless s l e = h .prices s l ∙ ap (λ b. cond b (y .split * fromOutside (y .trains) (received y) s) barred) e
 
-  has-room : (s : ℕ) → s < 2 ^ y .trains → ltb (getD price s 0) barred ≡ leb (ones s) (y .tracks)
+  has-room : (s : ℕ) → s < 2 ^ y .trains → ltb (getD (x .price) s 0) barred ≡ leb (ones s) (y .tracks)
   has-room s l = at (leb (ones s) (y .tracks)) refl
     where
-      at : (b : Bool) → leb (ones s) (y .tracks) ≡ b → ltb (getD price s 0) barred ≡ b
-      at true e = lt-ltb (getD price s 0) barred (omega (arith, priced s l e, split-in-row y s (omega arith), h .cheap (rowAround (y .trains) s s)))
-      at false e = le-ltb (getD price s 0) barred (omega (arith, roomless s l e))
+      at : (b : Bool) → leb (ones s) (y .tracks) ≡ b → ltb (getD (x .price) s 0) barred ≡ b
+      at true e = lt-ltb (getD (x .price) s 0) barred (omega (arith, priced s l e, split-in-row y s (omega arith), h .cheap (rowAround (y .trains) s s)))
+      at false e = le-ltb (getD (x .price) s 0) barred (omega (arith, roomless s l e))
 
   -- no set that is not barred has more trains than tracks
-  pub room-enough : (s : ℕ) → s < 2 ^ y .trains → getD price s 0 < barred → ones s ≤ y .tracks
-  room-enough s l m = leb-true (ones s) (y .tracks) (sym (has-room s l) ∙ lt-ltb (getD price s 0) barred m)
+  pub room-enough : (s : ℕ) → s < 2 ^ y .trains → getD (x .price) s 0 < barred → ones s ≤ y .tracks
+  room-enough s l m = leb-true (ones s) (y .tracks) (sym (has-room s l) ∙ lt-ltb (getD (x .price) s 0) barred m)
 
-  pub test-agrees : (t r s : ℕ) → 1 ≤ t → t ≤ y .slots → r < 2 ^ y .trains → Sub s r → fromTables price opens t r s ≡ servable y t r s
+  pub test-agrees : (t r s : ℕ) → 1 ≤ t → t ≤ y .slots → r < 2 ^ y .trains → Sub s r → fromTables x t r s ≡ servable y t r s
+  unfolding fromTables
   test-agrees zero r s a b l hs = absurd (omega arith)
   test-agrees (suc j) r s a b l hs =
       let first : suc j - 1 ≡ j = omega arith in
       let o = openIn (y .trains) (y .first) (y .last) (suc j) in
-      ap₂ (λ c x. c && subset s x) (has-room s (omega (arith, sub-le s r hs))) (ap (λ i. getD opens i 0) first ∙ h .windows j b)
+      ap₂ (λ c v. c && subset s v) (has-room s (omega (arith, sub-le s r hs))) (ap (λ i. getD (x .opens) i 0) first ∙ h .windows j b)
       ∙ and-comm (leb (ones s) (y .tracks)) (subset s o)
 
-  cost-reads : (t r s : ℕ) → r < 2 ^ y .trains → Sub s r → leb (ones s) (y .tracks) ≡ true → costFromTables need late price t r s ≡ slotCost y t r s
+  cost-reads : (t r s : ℕ) → r < 2 ^ y .trains → Sub s r → leb (ones s) (y .tracks) ≡ true → costFromTables x t r s ≡ slotCost y t r s
   cost-reads t r s l hs room =
       let later = needing (y .trains) (received y) (r - s) in
       let within : s < 2 ^ y .trains = omega (arith, sub-le s r hs) in
-      ap₂ (λ x z. x + z)
-      (ap (λ x. getD late (bitAnd s x) 0) (h .needs (r - s) (omega arith)) ∙ h .lates (bitAnd s later) (omega (arith, and-le-l s later)))
+      ap₂ (λ v z. v + z)
+      (ap (λ v. getD (x .late) (bitAnd s v) 0) (h .needs (r - s) (omega arith)) ∙ h .lates (bitAnd s later) (omega (arith, and-le-l s later)))
       (priced s within room)
 
-  pub cost-agrees : (t r s : ℕ) → 1 ≤ t → t ≤ y .slots → r < 2 ^ y .trains → Sub s r → T (servable y t r s)
-      → costFromTables need late price t r s ≡ slotCost y t r s
-  cost-agrees t r s a b l hs may =
+  pub key-agrees : (t r s : ℕ) → 1 ≤ t → t ≤ y .slots → r < 2 ^ y .trains → Sub s r → T (servable y t r s)
+      → keyFromTables x t r s ≡ stageKey y t r s
+  unfolding keyFromTables
+  key-agrees t r s a b l hs may =
       let o = openIn (y .trains) (y .first) (y .last) t in
       cost-reads t r s l hs (is-true (leb (ones s) (y .tracks)) (both-of (subset s o) (leb (ones s) (y .tracks)) may .1))
 
   -- a set that is not barred costs less than `barred`, as a slot costs no more than a row
-  pub unbarred-cheap : (t r s : ℕ) → r < 2 ^ y .trains → Sub s r → getD price s 0 < barred → costFromTables need late price t r s < barred
+  pub unbarred-cheap : (t r s : ℕ) → r < 2 ^ y .trains → Sub s r → getD (x .price) s 0 < barred → costFromTables x t r s < barred
   unbarred-cheap t r s l hs m =
       let within : s < 2 ^ y .trains = omega (arith, sub-le s r hs) in
-      let room = sym (has-room s within) ∙ lt-ltb (getD price s 0) barred m in
+      let room = sym (has-room s within) ∙ lt-ltb (getD (x .price) s 0) barred m in
       omega (arith, cost-reads t r s l hs room, slot-in-row y t r s (omega arith) hs, h .cheap (rowAround (y .trains) r s))
 
   pub solved-day : {inf N : ℕ} {wanted : ℕ → ℕ → Type 0} {a₀ c₀ a c : List ℕ} → N ≡ 2 ^ y .trains
-      → Solved (fromTables price opens) (costFromTables need late price) inf wanted N (y .slots) 0 a₀ c₀ a c
-      → Solved (servable y) (slotCost y) inf wanted N (y .slots) 0 a₀ c₀ a c
+      → Solved (fromTables x) (keyFromTables x) inf wanted N (y .slots) 0 a₀ c₀ a c
+      → Solved (servable y) (stageKey y) inf wanted N (y .slots) 0 a₀ c₀ a c
   solved-day {inf} {N} e =
-      solved-agree (fromTables price opens) (servable y) (costFromTables need late price) (slotCost y) inf N (y .slots)
-      (λ t r s a b l. test-agrees t r s a b (omega arith)) (λ t r s a b l. cost-agrees t r s a b (omega arith))
+      solved-agree (fromTables x) (servable y) (keyFromTables x) (stageKey y) inf N (y .slots)
+      (λ t r s a b l. test-agrees t r s a b (omega arith)) (λ t r s a b l. key-agrees t r s a b (omega arith))

@@ -12,24 +12,24 @@ use Rattle.model.specs.Model.{Yard, cost, allowed, Best}
 use Rattle.optimum.specs.Layers.{Closed, Solved}
 use Rattle.optimum.specs.Best.{optimum, optimum-lower}
 use Rattle.optimum.specs.Chosen.{rowIn, Leads, solved-value, solved-leads, solved-best}
-use Rattle.staging.specs.Tables.{servable, slotCost}
+use Rattle.staging.specs.Tables.{servable, stageKey}
 use Rattle.staging.specs.Reachable.{Reachable, reachable-all, reachable-closed}
 use Rattle.staging.specs.AllowedRows.{allowed-row}
 use Rattle.staging.specs.BestPlan.{row-cost, best-plan}
 
 module _ (y : Yard) {a₀ c₀ a c : List ℕ} {inf N : ℕ} (size : N ≡ 2 ^ y .trains)
-    (solved : Solved (servable y) (slotCost y) inf (Reachable N (y .tracks)) N (y .slots) 0 a₀ c₀ a c) where
+    (solved : Solved (servable y) (stageKey y) inf (Reachable N (y .tracks)) N (y .slots) 0 a₀ c₀ a c) where
   closed : Closed (servable y) (Reachable N (y .tracks))
   closed = reachable-closed y N
 
   top : Reachable N (y .tracks) 0 (full (y .trains))
   top = subst (Reachable N (y .tracks) 0) (ap (λ x. x - 1) size) (reachable-all N (y .tracks))
 
-  value : getD a (N - 1) 0 ≡ optimum (servable y) (slotCost y) inf (y .trains) (y .slots)
+  value : getD a (N - 1) 0 ≡ optimum (servable y) (stageKey y) inf (y .trains) (y .slots)
   value = solved-value (y .trains) size closed top solved
 
   module _ (found : getD a (N - 1) 0 < inf) where
-    some : optimum (servable y) (slotCost y) inf (y .trains) (y .slots) < inf
+    some : optimum (servable y) (stageKey y) inf (y .trains) (y .slots) < inf
     some = omega (arith, value)
 
     pub solution-leads : Leads c (y .trains) (y .slots) N (rowIn c (y .trains) (y .slots) N)
@@ -41,4 +41,4 @@ module _ (y : Yard) {a₀ c₀ a c : List ℕ} {inf N : ℕ} (size : N ≡ 2 ^ y
   pub solution-some : (row : List ℕ) → T (allowed y row) → cost y row < inf → getD a (N - 1) 0 < inf
   solution-some row h fits =
       let o = allowed-row y row h in
-      omega (arith, value, optimum-lower (servable y) (slotCost y) inf (y .trains) (y .slots) row o, row-cost y o)
+      omega (arith, value, optimum-lower (servable y) (stageKey y) inf (y .trains) (y .slots) row o, row-cost y o)

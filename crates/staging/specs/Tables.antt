@@ -41,8 +41,22 @@ lateTrains y r s = ones (bitAnd s (needing (y .trains) (received y) (r - s)))
 abbrev pub slotCost : Yard → Contribution
 slotCost y t r s = y .revisit * lateTrains y r s + y .split * fromOutside (y .trains) (received y) s
 
--- ---- the same from tables: trains with a supplier in each set, what the revisits of each set cost, what its split moves cost or
--- `barred` where it has more trains than tracks, the trains that may be served in each slot
+-- what the value of a plan is made of, slot by slot: planning makes the sum least
+abbrev pub stageKey : Yard → Contribution
+stageKey y = slotCost y
+
+-- ---- the same from tables
+
+pub record Tables : Type 0 where
+  -- of each set: the trains with a supplier in it; what its revisits cost; what its split moves cost, or `barred` where it may not be served
+  pub need : List ℕ
+  pub late : List ℕ
+  pub price : List ℕ
+  -- of each slot: the trains that may be served in it
+  pub opens : List ℕ
+
+abbrev pub tablesOf : List ℕ → List ℕ → List ℕ → List ℕ → Tables
+tablesOf need late price opens = record { need = need; late = late; price = price; opens = opens }
 
 abbrev pub barred : ℕ
 barred = 4294967295
@@ -51,8 +65,11 @@ barred = 4294967295
 abbrev pub noCost : ℕ
 noCost = 18446744073709551615
 
-abbrev pub fromTables : List ℕ → List ℕ → Test
-fromTables price opens t r s = ltb (getD price s 0) barred && subset s (getD opens (t - 1) 0)
+unfoldable pub fromTables : Tables → Test
+fromTables x t r s = ltb (getD (x .price) s 0) barred && subset s (getD (x .opens) (t - 1) 0)
 
-abbrev pub costFromTables : List ℕ → List ℕ → List ℕ → Contribution
-costFromTables need late price t r s = getD late (bitAnd s (getD need (r - s) 0)) 0 + getD price s 0
+abbrev pub costFromTables : Tables → Contribution
+costFromTables x t r s = getD (x .late) (bitAnd s (getD (x .need) (r - s) 0)) 0 + getD (x .price) s 0
+
+unfoldable pub keyFromTables : Tables → Contribution
+keyFromTables x = costFromTables x

@@ -16,9 +16,9 @@ use native.Mathlib.Omega.{arith}
 use lib.Dec.{T, leb}
 use lib.ListN.{length, drop}
 use borrow.Author.Tests.{le-leb}
-use Rattle.model.specs.Model.{Yard, Outcome, outcome, boundInside, Best, NoRow, FirstOverbooked}
+use Rattle.model.specs.Model.{Yard, Outcome, outcome, boundInside, Best, SomeRow, NoRow, FirstOverbooked}
 use Rattle.model.specs.Rows.{allowed-is}
-use Rattle.model.specs.BestOf.{bestOf, is-best, is-none}
+use Rattle.model.specs.BestOf.{bestOf, is-best, is-none, none-is}
 use Rattle.model.specs.Overbooked.{Interval, firstOverbooked, SaysFirst, first-says}
 use Rattle.day.specs.Answer.{Answer, gives, refuses, must, checked}
 use Rattle.day.specs.AnswerLaws.{gives-same, checked-gives}
@@ -27,7 +27,7 @@ use Rattle.day.specs.SoundLaws.{sound-is}
 use Rattle.day.specs.declared.Limits.{Limits}
 use Rattle.dayfile.specs.Reading.{readDay}
 use Rattle.dayfile.specs.RoundTrip.{read-sound}
-use Rattle.feasibility.specs.Verdict.{SomeRow, none-row}
+use Rattle.feasibility.specs.Verdict.{no-row-over}
 use Rattle.planning.specs.Planning.{costWords, choiceWords, bestAnswer, carriedBy, planned, begins, placed, rowAfter, openWords, Stays}
 use Rattle.planning.specs.Answers.{planned-begun, row-begun, refuses-only}
 use Rattle.planning.specs.Demand.{memory-suffices, memory-after}
@@ -79,12 +79,10 @@ module _ (l : Limits) (text : List ℕ) (y : Yard) (reads : readDay l text ≡ g
 
   pub plans-nine : NoRow y → Refused
   unfolding planFor rowFor slotsFor
-  plans-nine nowhere = go (bestOf y) refl (firstOverbooked y) refl
-    where
-      go : (b : Option (List ℕ)) → bestOf y ≡ b → (w : Option Interval) → firstOverbooked y ≡ w → Refused
-      go (some r) e w f = absurd (nowhere r (is-best y r e .isAllowed))
-      go none e none f = absurd (let (r, a) = none-row y (sound-is l y (read-sound l text y reads) .windows) f in nowhere r a)
-      go none e (some w) f = record {
+  plans-nine nowhere =
+      let e = none-is y nowhere in
+      let (w, f) = no-row-over y (sound-is l y (read-sound l text y reads) .windows) nowhere in
+      record {
         first = w .first;
         last = w .last;
         named = subst (SaysFirst y) f (first-says y);

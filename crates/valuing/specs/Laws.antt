@@ -13,7 +13,7 @@ use borrow.Author.Tests.{eq-eqb, ne-eqb}
 use Rattle.fold.specs.Fold.{each, each-at, each-i, lowest, each-lowest, lowest-each}
 use Rattle.model.specs.Model.{Yard, slotOf, firstSlot, lastSlot, Outcome, outcome, inSlots, inWindow, roomy, allowed}
 use Rattle.model.specs.Rows
-use Rattle.model.specs.Rows.{windowed, allowed-tests, tests-allowed, both-le, le-both}
+use Rattle.model.specs.Rows.{windowed, fitting-tests, tests-fitting, allowed-fits, fits-allowed, both-le, le-both}
 use Rattle.day.specs.Sound.{dayFrom, sound}
 use Rattle.day.specs.SoundLaws.{sound-is}
 use Rattle.day.specs.Answer.{gives, refuses}
@@ -91,14 +91,14 @@ module _ (l : Limits) (y : Yard) (row : List ℕ) where
   pub valued-allowed : T (sound l y) → T (allowed y row) → valued l y row ≡ gives (outcome y row)
   unfolding valued
   valued-allowed s a =
-      let (long, slotted, inside, room) = allowed-tests y row a in
+      let (long, slotted, inside, room) = fitting-tests y row (allowed-fits y row a) in
       checked-holds (rowChecks l y row) (gives (outcome y row)) (s, (long, (inside, (room, tt))))
 
   pub allowed-valued : (o : Outcome) → valued l y row ≡ gives o → T (sound l y) × T (allowed y row) × (outcome y row ≡ o)
   unfolding valued
   allowed-valued o e =
       let (h, g) = checked-gives (rowChecks l y row) (gives (outcome y row)) o e in
-      (h .0, tests-allowed y row (h .1 .0) (slotted (h .0) (h .1 .1 .0)) (h .1 .1 .0) (h .1 .1 .1 .0), cc)
+      (h .0, fits-allowed y row (tests-fitting y row (h .1 .0) (slotted (h .0) (h .1 .1 .0)) (h .1 .1 .0) (h .1 .1 .1 .0)), cc)
     where
       -- the windows of a sound day lie in its slots
       slotted : T (sound l y) → T (windowed y row) → T (Rows.slotted y row)

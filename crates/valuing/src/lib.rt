@@ -22,28 +22,28 @@ pub enum Valued {
 }
 
 // Whether slot t holds no more trains than there are tracks.
-fn is_roomy(slots: &[u8], n: usize, tracks: u32, t: u8) -> bool
-    requires { ⌜ (n ≤ 64) × (n ≤ length (now slots)) ⌝ }
-    ensures { λ r. ⌜ r ≡ roomy n tracks (now (slots .entry)) t ⌝ }
+fn is_roomy(row: &[u8], n: usize, tracks: u32, t: u8) -> bool
+    requires { ⌜ (n ≤ 64) × (n ≤ length (now row)) ⌝ }
+    ensures { λ r. ⌜ r ≡ roomy n tracks (now (row .entry)) t ⌝ }
 {
-    u64::count_ones(counting::slot_mask(slots, n, t)) <= tracks
+    u64::count_ones(counting::slot_mask(row, n, t)) <= tracks
 }
 
 // Whether the slot of position i lies in its window.
-fn is_in_window(first: &[u8], last: &[u8], slots: &[u8], i: usize) -> bool
-    requires { ⌜ (i < length (now first)) × (i < length (now last)) × (i < length (now slots)) ⌝ }
-    ensures { λ r. ⌜ r ≡ inWindow (now (first .entry)) (now (last .entry)) (now (slots .entry)) i ⌝ }
+fn is_in_window(first: &[u8], last: &[u8], row: &[u8], i: usize) -> bool
+    requires { ⌜ (i < length (now first)) × (i < length (now last)) × (i < length (now row)) ⌝ }
+    ensures { λ r. ⌜ r ≡ inWindow (now (first .entry)) (now (last .entry)) (now (row .entry)) i ⌝ }
 {
-    day::is_in_time(first, last, i, slots[i])
+    day::is_in_time(first, last, i, row[i])
 }
 
 // The lowest position whose slot lies outside its window, or n.
-fn first_stray(first: &[u8], last: &[u8], slots: &[u8], n: usize) -> usize
-    requires { ⌜ (n ≤ length (now first)) × (n ≤ length (now last)) × (n ≤ length (now slots)) ⌝ }
-    ensures { λ r. ⌜ r ≡ lowest n (strays (now (first .entry)) (now (last .entry)) (now (slots .entry))) ⌝ }
+fn first_stray(first: &[u8], last: &[u8], row: &[u8], n: usize) -> usize
+    requires { ⌜ (n ≤ length (now first)) × (n ≤ length (now last)) × (n ≤ length (now row)) ⌝ }
+    ensures { λ r. ⌜ r ≡ lowest n (strays (now (first .entry)) (now (last .entry)) (now (row .entry))) ⌝ }
 {
     for i in 0..n {
-        if !is_in_window(first, last, slots, i) {
+        if !is_in_window(first, last, row, i) {
             return i;
         }
     }
@@ -51,16 +51,16 @@ fn first_stray(first: &[u8], last: &[u8], slots: &[u8], n: usize) -> usize
 }
 
 // The lowest slot that holds too many trains, counted from 0, or the number of slots.
-fn first_overfull(slots: &[u8], n: usize, tracks: u32, count: u8) -> u8
-    requires { ⌜ (n ≤ 64) × (n ≤ length (now slots)) ⌝ }
-    ensures { λ r. ⌜ r ≡ lowest count (overfull n tracks (now (slots .entry))) ⌝ }
+fn first_overfull(row: &[u8], n: usize, tracks: u32, slots: u8) -> u8
+    requires { ⌜ (n ≤ 64) × (n ≤ length (now row)) ⌝ }
+    ensures { λ r. ⌜ r ≡ lowest slots (overfull n tracks (now (row .entry))) ⌝ }
 {
-    for t in 0..count {
-        if !is_roomy(slots, n, tracks, t + 1) {
+    for t in 0..slots {
+        if !is_roomy(row, n, tracks, t + 1) {
             return t;
         }
     }
-    count
+    slots
 }
 
 // Values a row on a sound day that is given by its head, the columns of its windows and its boxes: 11, 12 with the lowest such position,

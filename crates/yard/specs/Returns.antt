@@ -22,7 +22,7 @@ use lib.Dec.{T, leb}
 use lib.ListN.{length}
 use lib.Pow.{pow-mono}
 use borrow.Author.Tests.{le-leb, lt-leb}
-use Rattle.model.specs.Model.{Yard, Outcome, outcome, allowed}
+use Rattle.model.specs.Model.{Yard, Outcome, outcome, allowed, SomeRow}
 use Rattle.day.specs.Answer.{Answer, gives, refuses, code, onGiven}
 use Rattle.day.specs.AnswerLaws.{Only, only-given, only-wider}
 use Rattle.day.specs.Sound.{dayLimits, sound}
@@ -32,7 +32,6 @@ use Rattle.dayfile.specs.RoundTrip.{read-sound}
 use Rattle.dayfile.specs.Refused.{Lined, read-lined}
 use Rattle.valuing.specs.Valuing.{valued}
 use Rattle.valuing.specs.Laws.{valued-only, valued-allowed, allowed-valued}
-use Rattle.feasibility.specs.Verdict.{SomeRow}
 use Rattle.planning.specs.Planning.{planned}
 use Rattle.planning.specs.Answers.{areas-suffice, planned-only, from-best}
 use Rattle.baselines.specs.Baselines.{Comparison, compared}

@@ -3,12 +3,13 @@
 use mathlib.Core.Path.{_≡_, sym, _∙_, subst}
 use Prim.Native.Nat.{_≤_}
 use native.Mathlib.Omega.{arith}
-use lib.ListN.{length}
+use lib.ListN.{length, drop}
 use lib.Seq.{length-take-le}
+use Rattle.fold.specs.Listed.{take-front}
 use Rattle.day.specs.Sound.{dayLimits, yard}
 use Rattle.day.specs.SoundLaws.{sound-is}
 use Rattle.baselines.specs.Baselines.{against}
-use Rattle.baselines.specs.Laws.{Says, zeros, zeros-front, front-is, front-long, front-fits}
+use Rattle.baselines.specs.Laws.{Says, zeros, zeros-front, front-long, front-fits}
 use Rattle.baselines.proofs.compare_with.Statement.{statement}
 use Rattle.baselines.proofs.compare_with.Tie as tie
 
@@ -46,7 +47,7 @@ returns : tie.Need-returns
 returns c = let s = c .before .before .before .before .before in
     let row = c .before .before .before .fill-row .last .1 .1 .0 in
     let long : length row ≡ s .args .day .trains = c .before .before .before .fill-row .kept .1 .1 .0 ∙ length-take-le (s .args .day .trains) zeros (few s) in
-    subst (λ r. Says (against (yard (s .args .day)) r (s .args .best)) (c .compare .result)) (front-is (s .args .day .trains) row long ∙ c .before .before .before .fill-row .ensures) (c .compare .ensures)
+    subst (λ r. Says (against (yard (s .args .day)) r (s .args .best)) (c .compare .result)) (take-front row (drop (s .args .day .trains) zeros) long ∙ c .before .before .before .fill-row .ensures) (c .compare .ensures)
 
 pub compare-with-spec : {M : Type 1} → statement M
 compare-with-spec =

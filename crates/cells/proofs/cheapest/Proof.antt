@@ -1,7 +1,7 @@
 -- `cells::cheapest` meets its contract. The loop's invariant: `least` is the least that the subsets of `ready` from s up offer.
 -- Assumes nothing.
 use Prim.Native.Nat.{ℕ, suc, _+_, _-_, _^_, _≤_, _<_}
-use mathlib.Core.Path.{refl, ap}
+use mathlib.Core.Path.{refl, ap, _∙_}
 use mathlib.Core.Logic.{⊎-elim}
 use native.Mathlib.Omega.{arith}
 use borrow.Author.Needs.{needs}
@@ -11,20 +11,23 @@ use Rattle.sets.specs.Subset.{Sub, sub-le, sub-refl, sub-trans, sub-and, walk-s
 use Rattle.sets.specs.Rest.{meet-left}
 use Rattle.optimum.specs.Workspace.{at}
 use Rattle.optimum.specs.Tried.{Tried, tried-start, tried-take, tried-keep, tried-pass, tried-is, tried-next, tried-meet}
-use Rattle.staging.specs.Tables.{barred, fromTables, costFromTables, noCost}
-use Rattle.cells.specs.Laws.{may-serve, serve-open, serve-priced}
+use Rattle.staging.specs.Tables.{Tables, tablesOf, barred, noCost, fromTables, costFromTables, keyFromTables}
+use Rattle.cells.specs.Laws.{key-sums, may-serve, serve-open, serve-priced}
 use Rattle.cells.proofs.cheapest.Statement.{statement}
 use Rattle.cells.proofs.cheapest.Tie as tie
 
 abbrev Inv-loop : tie.InvT-loop
 Inv-loop cost need late price opens j r ready least₀ chosen₀ s₀ least chosen s =
-    Sub s ready × Tried (fromTables price opens) (costFromTables need late price) noCost (at cost) (suc j) r ready (suc s) least chosen
+    Sub s ready × Tried (fromTables (tablesOf need late price opens)) (keyFromTables (tablesOf need late price opens)) noCost (at cost) (suc j) r ready (suc s) least chosen
 
 abbrev μ-loop : tie.MeasureT-loop
 μ-loop cost need late price opens j r ready least₀ chosen₀ s₀ least chosen s = s
 
 abbrev from : tie.At-loop Inv-loop μ-loop → tie.Start Inv-loop μ-loop
 from a = a .before .before .before .before .before .before .before
+
+abbrev given : tie.At-loop Inv-loop μ-loop → Tables
+given a = let z = from a .args in tablesOf (z .need .now) (z .late .now) (z .price .now) (z .opens .now)
 
 -- the trains of r whose windows hold the slot
 abbrev ready : tie.At-loop Inv-loop μ-loop → ℕ
@@ -39,34 +42,34 @@ module _ (a : tie.At-loop Inv-loop μ-loop) where
 
   -- the windows of s hold the slot: only its price decides whether it may be served
   may : at (from a .args .price .now) (a .loop .s) < barred
-      → T (fromTables (from a .args .price .now) (from a .args .opens .now) (suc (from a .args .j)) (from a .args .r) (a .loop .s))
+      → T (fromTables (given a) (suc (from a .args .j)) (from a .args .r) (a .loop .s))
   may l =
       let z = from a .args in
       let o = at (z .opens .now) (z .j) in
-      may-serve (z .price .now) (z .opens .now) (z .j) (z .r) (a .loop .s) l (sub-trans (a .loop .s) (ready a) o (a .loop .inv .0) (sub-and (z .r) o))
+      may-serve (given a) (z .j) (z .r) (a .loop .s) l (sub-trans (a .loop .s) (ready a) o (a .loop .inv .0) (sub-and (z .r) o))
 
   -- then its cost fits 32 bits
   fits : at (from a .args .price .now) (a .loop .s) < barred
-      → costFromTables (from a .args .need .now) (from a .args .late .now) (from a .args .price .now) (suc (from a .args .j)) (from a .args .r) (a .loop .s) < 2 ^ 32
+      → costFromTables (given a) (suc (from a .args .j)) (from a .args .r) (a .loop .s) < 2 ^ 32
   fits l = from a .pre .0 .fits (suc (from a .args .j)) (from a .args .r) (a .loop .s) (omega arith) of-r l
 
 -- s is tried: its total is taken or kept out, or what it leaves has no schedule, or it is barred
 tried : (c : tie.Joined1 Inv-loop μ-loop)
     → let a = c .before .before in
     let z = from a .args in
-    Tried (fromTables (z .price .now) (z .opens .now)) (costFromTables (z .need .now) (z .late .now) (z .price .now)) noCost (at (z .cost .now)) (suc (z .j)) (z .r)
+    Tried (fromTables (given a)) (keyFromTables (given a)) noCost (at (z .cost .now)) (suc (z .j)) (z .r)
     (ready a) (a .loop .s) (c .if1 .least) (c .if1 .chosen)
 tried c =
     let a = c .before .before in
     let inv = a .loop .inv in
     let z = from a .args in
     let after = at (z .cost .now) (z .r - a .loop .s) in
-    ⊎-elim (λ x. tried-is (tried-take _ (inv .1) (inv .0) (may a (x .0 .taken)) (x .2 .taken) (ap (λ k. after + k) (x .3 .ensures)) (x .4 .taken)) (x .5) (x .6))
-    (⊎-elim (λ x. tried-is (tried-keep _ (inv .1) (may a (x .0 .taken)) (x .2 .taken) (ap (λ k. after + k) (x .3 .ensures)) (x .4 .left)) (x .5) (x .6))
+    ⊎-elim (λ x. tried-is (tried-take _ (inv .1) (inv .0) (may a (x .0 .taken)) (x .2 .taken) (ap (λ k. after + k) (x .3 .ensures ∙ key-sums (given a) (suc (z .j)) (z .r) (a .loop .s))) (x .4 .taken)) (x .5) (x .6))
+    (⊎-elim (λ x. tried-is (tried-keep _ (inv .1) (may a (x .0 .taken)) (x .2 .taken) (ap (λ k. after + k) (x .3 .ensures ∙ key-sums (given a) (suc (z .j)) (z .r) (a .loop .s))) (x .4 .left)) (x .5) (x .6))
     (⊎-elim (λ x. tried-is (tried-pass (inv .1) (λ o. x .2 .left)) (x .3) (x .4))
     (λ x.
     tried-is
-    (tried-pass (inv .1) (λ o. absurd (omega (arith, serve-priced (z .price .now) (z .opens .now) (suc (z .j)) (z .r) (a .loop .s) o, x .0 .left))))
+    (tried-pass (inv .1) (λ o. absurd (omega (arith, serve-priced (given a) (suc (z .j)) (z .r) (a .loop .s) o, x .0 .left))))
     (x .1) (x .2))))
     (c .if1 .came)
 
@@ -118,7 +121,7 @@ returns c =
     let a = c .before .before .before in
     let z = from a .args in
     tried-meet (at (z .opens .now) (z .j)) (tried (c .before)) (c .if4 .taken) refl
-    (λ u k. serve-open (z .price .now) (z .opens .now) (z .j) (z .r) u k)
+    (λ u k. serve-open (given a) (z .j) (z .r) u k)
 
 sub-s : tie.Need-sub-s Inv-loop μ-loop
 sub-s c = search needs

@@ -7,7 +7,7 @@ use borrow.Author.Needs.{needs}
 use lib.Dec.{T}
 use Rattle.fold.specs.Test.{of-true}
 use Rattle.optimum.specs.Direct.{last-none}
-use Rattle.staging.specs.Tables.{fromTables, costFromTables, noCost}
+use Rattle.staging.specs.Tables.{Tables, tablesOf, noCost, fromTables, keyFromTables}
 use Rattle.cells.specs.Laws.{test-reads, whole-fits, whole-cell}
 use Rattle.cells.proofs.whole.Statement.{statement}
 use Rattle.cells.proofs.whole.Tie as tie
@@ -16,10 +16,13 @@ use Rattle.cells.proofs.whole.Tie as tie
 abbrev start : tie.Then1 → tie.Start
 start c = c .before .before .before .before .before .before .before
 
-may : (c : tie.Then1) → T (fromTables (start c .args .price .now) (start c .args .opens .now) (suc (start c .args .j)) (start c .args .r) (start c .args .r))
+abbrev given : tie.Start → Tables
+given s = tablesOf (s .args .need .now) (s .args .late .now) (s .args .price .now) (s .args .opens .now)
+
+may : (c : tie.Then1) → T (fromTables (given (start c)) (suc (start c .args .j)) (start c .args .r) (start c .args .r))
 may c =
     let z = start c .args in
-    of-true (test-reads (z .price .now) (z .opens .now) (z .j) (z .r) (z .r) ∙ c .if1 .taken)
+    of-true (test-reads (given (start c)) (z .j) (z .r) (z .r) ∙ c .if1 .taken)
 
 mul-splits : tie.Need-mul-splits
 mul-splits c = search needs
@@ -52,9 +55,10 @@ returns c =
 
 returns-2 : tie.Need-returns-2
 returns-2 c =
-    let z = c .before .before .before .before .before .before .before .args in
-    last-none (fromTables (z .price .now) (z .opens .now)) (costFromTables (z .need .now) (z .late .now) (z .price .now)) noCost (suc (z .j)) (z .r)
-    (λ m. subst T (test-reads (z .price .now) (z .opens .now) (z .j) (z .r) (z .r) ∙ c .if1 .left) m)
+    let s = c .before .before .before .before .before .before .before in
+    let z = s .args in
+    last-none (fromTables (given s)) (keyFromTables (given s)) noCost (suc (z .j)) (z .r)
+    (λ m. subst T (test-reads (given s) (z .j) (z .r) (z .r) ∙ c .if1 .left) m)
 
 pub whole-spec : {M : Type 1} → statement M
 whole-spec =

@@ -12,10 +12,10 @@ use Rattle.counting.proofs.count_revisits.Statement.{statement}
 use Rattle.counting.proofs.count_revisits.Tie as tie
 
 abbrev Inv-loop : tie.InvT-loop
-Inv-loop boxes width slots n count₀ i₀ count i = (i ≤ n) × (count ≡ Fold.count i (revisiting n (cell width boxes) slots)) × (count ≤ i)
+Inv-loop boxes width row n count₀ i₀ count i = (i ≤ n) × (count ≡ Fold.count i (revisiting n (cell width boxes) row)) × (count ≤ i)
 
 abbrev μ-loop : tie.MeasureT-loop
-μ-loop boxes width slots n count₀ i₀ count i = n - i
+μ-loop boxes width row n count₀ i₀ count i = n - i
 
 loop-holds : tie.Need-loop-holds Inv-loop μ-loop
 loop-holds c = (search needs, sym (count-none _), search needs)
@@ -36,7 +36,7 @@ loop-again : tie.Need-loop-again Inv-loop μ-loop
 loop-again c =
     let a = c .before .before .before .before .before .before .args in
     let l = c .before .before .before .loop in
-    let next = count-next (l .i) (revisiting (a .n) (cell (a .width) (a .boxes .now)) (a .slots .now)) in
+    let next = count-next (l .i) (revisiting (a .n) (cell (a .width) (a .boxes .now)) (a .row .now)) in
     ⊎-elim
     (λ w. let one = ap bit (sym (c .before .is-revisiting .ensures) ∙ w .0 .taken) in omega arith)
     (λ w. let none = ap bit (sym (c .before .is-revisiting .ensures) ∙ w .0 .left) in omega arith)
@@ -47,7 +47,7 @@ unfolding revisits
 returns c =
     let a = c .before .before .before .before .args in
     let l = c .before .loop in
-    let end = at-end (λ k. Fold.count k (revisiting (a .n) (cell (a .width) (a .boxes .now)) (a .slots .now))) (l .i) (a .n) (l .inv .0) (c .loop-test .left) in
+    let end = at-end (λ k. Fold.count k (revisiting (a .n) (cell (a .width) (a .boxes .now)) (a .row .now))) (l .i) (a .n) (l .inv .0) (c .loop-test .left) in
     (l .inv .1 ∙ end, omega arith)
 
 pub count-revisits-spec : {M : Type 1} → statement M

@@ -11,10 +11,10 @@ use Rattle.counting.proofs.count_splits.Statement.{statement}
 use Rattle.counting.proofs.count_splits.Tie as tie
 
 abbrev Inv-loop : tie.InvT-loop
-Inv-loop boxes width slots n total₀ i₀ total i = (i ≤ n) × (total ≡ sum i (splitsTo n (cell width boxes) slots)) × (total ≤ 16320 * i)
+Inv-loop boxes width row n total₀ i₀ total i = (i ≤ n) × (total ≡ sum i (splitsTo n (cell width boxes) row)) × (total ≤ 16320 * i)
 
 abbrev μ-loop : tie.MeasureT-loop
-μ-loop boxes width slots n total₀ i₀ total i = n - i
+μ-loop boxes width row n total₀ i₀ total i = n - i
 
 loop-holds : tie.Need-loop-holds Inv-loop μ-loop
 loop-holds c = (search needs, sym (sum-none _), search needs)
@@ -38,8 +38,8 @@ loop-again : tie.Need-loop-again Inv-loop μ-loop
 loop-again c =
     let l = c .before .before .before in
     let a = l .before .before .before .args in
-    let next = sum-next (l .loop .i) (splitsTo (a .n) (cell (a .width) (a .boxes .now)) (a .slots .now)) in
-    let own = split-outside (a .n) (cell (a .width) (a .boxes .now)) (a .slots .now) (l .loop .i) in
+    let next = sum-next (l .loop .i) (splitsTo (a .n) (cell (a .width) (a .boxes .now)) (a .row .now)) in
+    let own = split-outside (a .n) (cell (a .width) (a .boxes .now)) (a .row .now) (l .loop .i) in
     omega (arith, next, own, c .boxes-outside .ensures .0)
 
 returns : tie.Need-returns Inv-loop μ-loop
@@ -47,7 +47,7 @@ unfolding splits
 returns c =
     let a = c .before .before .before .before .args in
     let l = c .before .loop in
-    let end = at-end (λ k. sum k (splitsTo (a .n) (cell (a .width) (a .boxes .now)) (a .slots .now))) (l .i) (a .n) (l .inv .0) (c .loop-test .left) in
+    let end = at-end (λ k. sum k (splitsTo (a .n) (cell (a .width) (a .boxes .now)) (a .row .now))) (l .i) (a .n) (l .inv .0) (c .loop-test .left) in
     (l .inv .1 ∙ end, omega arith)
 
 pub count-splits-spec : {M : Type 1} → statement M

@@ -11,10 +11,10 @@ use Rattle.counting.proofs.is_revisiting.Statement.{statement}
 use Rattle.counting.proofs.is_revisiting.Tie as tie
 
 abbrev Inv-loop : tie.InvT-loop
-Inv-loop boxes width slots n i j₀ j = (j ≤ n) × (some j (lateSupplier (cell width boxes) slots i) ≡ false)
+Inv-loop boxes width row n i j₀ j = (j ≤ n) × (some j (lateSupplier (cell width boxes) row i) ≡ false)
 
 abbrev μ-loop : tie.MeasureT-loop
-μ-loop boxes width slots n i j₀ j = n - j
+μ-loop boxes width row n i j₀ j = n - j
 
 loop-holds : tie.Need-loop-holds Inv-loop μ-loop
 loop-holds c = (search needs, no-some _)

@@ -14,10 +14,10 @@ use Rattle.counting.proofs.slot_mask.Statement.{statement}
 use Rattle.counting.proofs.slot_mask.Tie as tie
 
 abbrev Inv-loop : tie.InvT-loop
-Inv-loop slots n t mask₀ i₀ mask i = (i ≤ n) × (mask ≡ slotMask i slots t)
+Inv-loop row n t mask₀ i₀ mask i = (i ≤ n) × (mask ≡ slotMask i row t)
 
 abbrev μ-loop : tie.MeasureT-loop
-μ-loop slots n t mask₀ i₀ mask i = n - i
+μ-loop row n t mask₀ i₀ mask i = n - i
 
 loop-holds : tie.Need-loop-holds Inv-loop μ-loop
 unfolding slotMask
@@ -47,7 +47,7 @@ loop-again c =
 returns : tie.Need-returns Inv-loop μ-loop
 returns c =
     let a = c .before .before .args in
-    c .before .loop .inv .1 ∙ at-end (λ k. slotMask k (a .slots .now) (a .t)) _ _ (c .before .loop .inv .0) (c .loop-test .left)
+    c .before .loop .inv .1 ∙ at-end (λ k. slotMask k (a .row .now) (a .t)) _ _ (c .before .loop .inv .0) (c .loop-test .left)
 
 pub slot-mask-spec : {M : Type 1} → statement M
 slot-mask-spec =

@@ -2,6 +2,7 @@
 -- Assumes nothing.
 use mathlib.Core.Path.{ap₂, _∙_}
 use Rattle.model.specs.Model.{weighed}
+use Rattle.counting.specs.Counting.{same-figures}
 use borrow.Author.Needs.{needs}
 use Rattle.counting.proofs.value_slots.Statement.{statement}
 use Rattle.counting.proofs.value_slots.Tie as tie
@@ -20,7 +21,7 @@ returns c =
     let a = c .before .before .count-revisits .ensures .0 in
     let s = c .before .count-splits .ensures .0 in
     let w = c .weigh .ensures ∙ ap₂ (weighed _ _) a s in
-    λ i. record { revisits = a i; splits = s i; cost = w i }
+    same-figures a s w
 
 pub value-slots-spec : {M : Type 1} → statement M
 value-slots-spec =

@@ -1,4 +1,5 @@
--- `planning::solve_day` meets its contract. The four tables are those of the day (staging's `DayTables`), so solving them solves the day (`solved-day`).
+-- `planning::solve_day` meets its contract. The filled tables are those of the day (staging's `DayTables`), so solving them solves the day
+-- (`solved-day`).
 -- Assumes nothing.
 use mathlib.Core.Path.{_≡_, sym, subst}
 use Prim.Native.Nat.{ℕ, _^_, _≤_, _<_}
@@ -9,12 +10,44 @@ use lib.Pow.{pow-pos}
 use Rattle.day.specs.Sound.{dayLimits, yard}
 use Rattle.day.specs.SoundLaws.{Sound, sound-is}
 use Rattle.day.specs.Most.{cost-most}
+use Rattle.staging.specs.Tables.{Tables, tablesOf}
 use Rattle.staging.specs.SlotInRow.{rowAround, split-in-row}
 use Rattle.staging.specs.FromTables.{DayTables, room-enough, unbarred-cheap, solved-day}
 use Rattle.tables.specs.Given.{Given}
 use borrow.Author.Needs.{needs}
 use Rattle.planning.proofs.solve_day.Statement.{statement}
 use Rattle.planning.proofs.solve_day.Tie as tie
+
+-- ---- the places: the start, seen from where each table is filled, and these from one another
+
+abbrev head : tie.After-struct-known → tie.Start
+head c = c .before .before .before .before .before .before
+
+abbrev needed : tie.After-fill-late → tie.After-fill-needing
+needed c = c .before .before .before
+
+abbrev lately : tie.After-fill-price → tie.After-fill-late
+lately c = c .before .before .before .before
+
+abbrev priced : tie.After-fill-open → tie.After-fill-price
+priced c = c .before .before .before .before .before
+
+abbrev at-need : tie.After-boxes2 → tie.Start
+at-need c = head (c .before .before)
+
+abbrev at-late : tie.After-late → tie.Start
+at-late c = at-need (c .before .before .before)
+
+abbrev at-price : tie.After-boxes3 → tie.Start
+at-price c = at-late (c .before .before .before .before)
+
+abbrev at-open : tie.After-opens → tie.Start
+at-open c = at-price (c .before .before .before)
+
+abbrev start : tie.After-fill-open → tie.Start
+start c = at-open (c .before .before .before)
+
+-- ---- what holds there
 
 -- what a sound day says
 least : (c : tie.Start) → Sound dayLimits (yard (c .args .day))
@@ -26,24 +59,30 @@ small c =
     let most : 2 ^ c .args .day .trains ≤ 2 ^ 12 = pow-le-pow-right (lit≤ tt) (least c .trains .1) in
     omega (arith, most, c .pre .1 .0)
 
+sets : (c : tie.Start) → 2 ^ c .args .day .trains ≤ 4096
+sets c = subst (λ k. k ≤ 4096) (c .pre .1 .0) (small c)
+
 given : (c : tie.Start) → Given (c .args .day .trains) 12 (c .args .day .boxes)
 given c = record { few = least c .trains .1; narrow = least c .trains .1; whole = omega (arith, least c .shape .boxes) }
 
--- when the tables are filled: the function's arguments, and that the tables are the day's
-abbrev start : tie.After-fill-open → tie.Start
-start f = f .before .before .before .before .before .before .before .before .before .before .before .before .before .before .before .before .before .before .before .before .before
+-- the filled tables, and that they are the day's
+abbrev filled : tie.After-fill-open → Tables
+filled f =
+    tablesOf (needed (lately (priced f)) .fill-needing .last .0) (lately (priced f) .fill-late .last .0) (priced f .fill-price .last .0)
+    (f .fill-open .last .0)
 
-tables : (f : tie.After-fill-open)
-    → DayTables (yard (start f .args .day)) (f .before .before .before .before .before .before .before .before .before .before .before .before .fill-needing .last .0) (f .before .before .before .before .before .before .before .before .before .fill-late .last .0) (f .before .before .before .before .before .fill-price .last .0) (f .fill-open .last .0)
-tables f =
+day-tables : (f : tie.After-fill-open) → DayTables (yard (start f .args .day)) (filled f)
+day-tables f =
     let below : (m : ℕ) → m < 2 ^ start f .args .day .trains → m < start f .args .size = λ m h. omega (arith, start f .pre .1 .0) in
     record {
-      needs = f .before .before .before .before .before .before .before .before .before .before .before .before .fill-needing .ensures .all;
-      lates = f .before .before .before .before .before .before .before .before .before .fill-late .ensures .all;
-      prices = λ m h. f .before .before .before .before .before .fill-price .ensures .all m (below m h);
+      needs = needed (lately (priced f)) .fill-needing .ensures .all;
+      lates = lately (priced f) .fill-late .ensures .all;
+      prices = λ m h. priced f .fill-price .ensures .all m (below m h);
       windows = f .fill-open .ensures .all;
       cheap = λ row. omega (arith, cost-most (yard (start f .args .day)) row (start f .pre .0));
     }
+
+-- ---- the needs
 
 cast-slots : tie.Need-cast-slots
 cast-slots c = search needs
@@ -55,15 +94,13 @@ slice-aggregate-fill-needing-2 : tie.Need-slice-aggregate-fill-needing-2
 slice-aggregate-fill-needing-2 c = search needs
 
 fill-needing-requires : tie.Need-fill-needing-requires
-fill-needing-requires c κs = (given (c .before .before .before .before .before .before .before .before), subst (λ k. k ≤ 4096) (c .before .before .before .before .before .before .before .before .pre .1 .0) (small (c .before .before .before .before .before .before .before .before)))
+fill-needing-requires c κs = (given (at-need c), sets (at-need c))
 
 slice-aggregate-fill-late : tie.Need-slice-aggregate-fill-late
 slice-aggregate-fill-late c = search needs
 
 fill-late-requires : tie.Need-fill-late-requires
-fill-late-requires c κs =
-    let s = c .before .before .before .before .before .before .before .before .before .before .before in
-    (least s .weights .0, least s .trains .1, subst (λ k. k ≤ 4096) (s .pre .1 .0) (small s))
+fill-late-requires c κs = let s = at-late c in (least s .weights .0, least s .trains .1, sets s)
 
 slice-aggregate-fill-price : tie.Need-slice-aggregate-fill-price
 slice-aggregate-fill-price c = search needs
@@ -73,7 +110,7 @@ slice-aggregate-fill-price-2 c = search needs
 
 fill-price-requires : tie.Need-fill-price-requires
 fill-price-requires c κs =
-    let s = c .before .before .before .before .before .before .before .before .before .before .before .before .before .before .before in
+    let s = at-price c in
     let y = yard (s .args .day) in (
       given s,
       s .pre .1 .0,
@@ -85,16 +122,17 @@ slice-aggregate-fill-open : tie.Need-slice-aggregate-fill-open
 slice-aggregate-fill-open c = search needs
 
 slice-aggregate-fill-open-2 : tie.Need-slice-aggregate-fill-open-2
-slice-aggregate-fill-open-2 c = sym (least (c .before .before .before .before .before .before .before .before .before .before .before .before .before .before .before .before .before .before .before) .shape .first)
+slice-aggregate-fill-open-2 c = sym (least (at-open (c .before)) .shape .first)
 
 slice-aggregate-fill-open-3 : tie.Need-slice-aggregate-fill-open-3
-slice-aggregate-fill-open-3 c = sym (least (c .before .before .before .before .before .before .before .before .before .before .before .before .before .before .before .before .before .before .before .before) .shape .last)
+slice-aggregate-fill-open-3 c = sym (least (at-open (c .before .before)) .shape .last)
 
 fill-open-requires : tie.Need-fill-open-requires
 fill-open-requires c κs =
-    let n : c .before .before .before .before .before .before .before .before .before .before .before .before .before .before .before .before .before .before .before .before .args .day .trains ≤ 12 = least (c .before .before .before .before .before .before .before .before .before .before .before .before .before .before .before .before .before .before .before .before) .trains .1 in
-    let t : c .before .before .before .before .before .before .before .before .before .before .before .before .before .before .before .before .before .before .before .before .args .day .slots ≤ 8 = least (c .before .before .before .before .before .before .before .before .before .before .before .before .before .before .before .before .before .before .before .before) .slots .1 in
-    (n, omega (arith, least (c .before .before .before .before .before .before .before .before .before .before .before .before .before .before .before .before .before .before .before .before) .shape .first, n), omega (arith, least (c .before .before .before .before .before .before .before .before .before .before .before .before .before .before .before .before .before .before .before .before) .shape .last, n), omega arith, t)
+    let s = at-open (c .before .before) in
+    let n : s .args .day .trains ≤ 12 = least s .trains .1 in
+    let t : s .args .day .slots ≤ 8 = least s .slots .1 in
+    (n, omega (arith, least s .shape .first, n), omega (arith, least s .shape .last, n), omega arith, t)
 
 slice-aggregate-solve : tie.Need-slice-aggregate-solve
 slice-aggregate-solve c = search needs
@@ -117,13 +155,13 @@ solve-requires c κs =
       record {
         sets = (omega (arith, pow-pos (s .args .day .trains), s .pre .1 .0), small s);
         stages = least s .slots;
-        needs = long _ (f .before .before .before .before .before .before .before .before .before .before .before .before .fill-needing .kept .0);
-        lates = long _ (f .before .before .before .before .before .before .before .before .before .fill-late .kept .0);
-        prices = long _ (f .before .before .before .before .before .fill-price .kept .0);
+        needs = long _ (needed (lately (priced f)) .fill-needing .kept .0);
+        lates = long _ (lately (priced f) .fill-late .kept .0);
+        prices = long _ (priced f .fill-price .kept .0);
         opened = subst (λ k. s .args .day .slots ≤ k) (sym (f .fill-open .kept .0)) slots;
-        fits = λ t r x l hx m. omega (arith, unbarred-cheap (tables f) t r x (omega (arith, s .pre .1 .0)) hx m);
+        fits = λ t r x l hx m. omega (arith, unbarred-cheap (day-tables f) t r x (omega (arith, s .pre .1 .0)) hx m);
       },
-      record { few = least s .tracks .1; enough = λ m h. room-enough (tables f) m (omega (arith, s .pre .1 .0)) },
+      record { few = least s .tracks .1; enough = λ m h. room-enough (day-tables f) m (omega (arith, s .pre .1 .0)) },
       s .pre .1 .1 .0,
       s .pre .1 .1 .1,
     )
@@ -135,7 +173,10 @@ same-length-2 : tie.Need-same-length-2
 same-length-2 c = search needs
 
 returns : tie.Need-returns
-returns c = let f = c .before .before .before .before .before .before .before .before .before .before .before .before in solved-day (tables f) (start f .pre .1 .0) (c .before .before .before .before .solve .ensures)
+returns c =
+    let solved = c .before .before .before .before in
+    let f = solved .before .before .before .before .before .before .before .before in
+    solved-day (day-tables f) (start f .pre .1 .0) (solved .solve .ensures)
 
 pub solve-day-spec : {M : Type 1} → statement M
 solve-day-spec =

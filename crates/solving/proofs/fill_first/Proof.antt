@@ -6,16 +6,19 @@ use native.Mathlib.Omega.{arith}
 use borrow.Author.Needs.{needs}
 use Rattle.optimum.specs.Stages.{tab, choice}
 use Rattle.optimum.specs.Layers.{Table, table-cell, stage-start, stage-next, stage-pass, stage-end, solved-reads}
-use Rattle.staging.specs.Tables.{fromTables, costFromTables, noCost}
+use Rattle.staging.specs.Tables.{Tables, tablesOf, noCost, fromTables, keyFromTables}
 use Rattle.staging.specs.Reachable.{Reachable, reachable-all}
 use Rattle.cells.specs.Given.{given-less}
 use Rattle.solving.specs.Laws.{leaves-reachable, table-rests, choice-place}
 use Rattle.solving.proofs.fill_first.Statement.{statement}
 use Rattle.solving.proofs.fill_first.Tie as tie
 
+abbrev given : tie.Start → Tables
+given s = let z = s .args in tablesOf (z .need .now) (z .late .now) (z .price .now) (z .opens .now)
+
 module _ (s : tie.Start) where
   -- the second slot's table, which the cell reads
-  reads : Table (fromTables (s .args .price .now) (s .args .opens .now)) (costFromTables (s .args .need .now) (s .args .late .now) (s .args .price .now)) noCost
+  reads : Table (fromTables (given s)) (keyFromTables (given s)) noCost
       (Reachable (s .args .size) (s .args .tracks)) (s .args .size) (s .args .slots - 1) 1 (s .args .cost .now)
   reads = solved-reads 0 (s .pre .4) refl
 
@@ -62,8 +65,8 @@ returns c =
     let s = c .before .before .before .before .before .before .before .before in
     let z = s .args in
     let r = z .size - 1 in
-    let ok = fromTables (z .price .now) (z .opens .now) in
-    let w = costFromTables (z .need .now) (z .late .now) (z .price .now) in
+    let ok = fromTables (given s) in
+    let w = keyFromTables (given s) in
     let slots = s .pre .0 .stages .0 in
     let left : suc (z .slots - 1) ≡ z .slots - 0 = omega arith in
     let (v, u) = table-cell r (reads s) (last s) (λ q hq may. leaves-reachable (s .pre .0) q (s .pre .1) (last s) (all s) hq may) in

@@ -6,7 +6,7 @@ use native.Mathlib.Omega.{arith}
 use lib.ListN.{length}
 use Rattle.optimum.specs.Stages.{tab, choice}
 use Rattle.optimum.specs.Layers.{Every, Stage, stage-last, stage-next, stage-end}
-use Rattle.staging.specs.Tables.{fromTables, costFromTables, noCost}
+use Rattle.staging.specs.Tables.{Tables, tablesOf, noCost, fromTables, keyFromTables}
 use Rattle.cells.specs.Given.{given-less}
 use Rattle.solving.specs.Laws.{choice-place}
 use Rattle.solving.proofs.fill_last.Statement.{statement}
@@ -14,13 +14,16 @@ use Rattle.solving.proofs.fill_last.Tie as tie
 
 abbrev Inv-loop : tie.InvT-loop
 Inv-loop cost₀ choice₀ need late price opens slots size j r₀ cost choice r =
-    Stage (fromTables price opens) (costFromTables need late price) noCost Every size slots j r cost₀ choice₀ cost choice
+    Stage (fromTables (tablesOf need late price opens)) (keyFromTables (tablesOf need late price opens)) noCost Every size slots j r cost₀ choice₀ cost choice
 
 abbrev μ-loop : tie.MeasureT-loop
 μ-loop cost₀ choice₀ need late price opens slots size j r₀ cost choice r = r
 
 abbrev from : tie.At-loop Inv-loop μ-loop → tie.Start Inv-loop μ-loop
 from c = c .before .before .before .before .before .before .before
+
+abbrev given : tie.Start Inv-loop μ-loop → Tables
+given s = let z = s .args in tablesOf (z .need .now) (z .late .now) (z .price .now) (z .opens .now)
 
 -- inside the loop: the workspaces are still as long, and the word that is written is one of theirs
 module _ (c : tie.In-loop Inv-loop μ-loop) where
@@ -76,11 +79,12 @@ loop-less c = omega arith
 loop-again : tie.Need-loop-again Inv-loop μ-loop
 loop-again c =
     let o = c .before in
-    let z = from (o .before) .args in
+    let s = from (o .before) in
+    let z = s .args in
     let r = o .before .loop .r - 1 in
     let one : 1 ≡ z .slots - (z .slots - 1) = omega (arith, slot o) in
-    let ok = fromTables (z .price .now) (z .opens .now) in
-    let w = costFromTables (z .need .now) (z .late .now) (z .price .now) in
+    let ok = fromTables (given s) in
+    let w = keyFromTables (given s) in
     stage-next _ _ _ _ (o .before .loop .inv) (omega arith) refl (slot o) (costs o) (choices o) (
       c .whole .ensures .0 ∙ ap (λ k. tab ok w noCost k (suc (z .slots - 1)) r) one,
       c .whole .ensures .1 ∙ ap (λ k. choice ok w noCost k (suc (z .slots - 1)) r) one,

@@ -10,23 +10,26 @@ use lib.Count.{ones, ones-le}
 use lib.ListN.{length}
 use Rattle.optimum.specs.Stages.{tab, choice}
 use Rattle.optimum.specs.Layers.{Table, Stage, table-cell, table-put, table-less, stage-start, stage-next, stage-pass, stage-end, solved-reads}
-use Rattle.staging.specs.Tables.{fromTables, costFromTables, noCost}
+use Rattle.staging.specs.Tables.{Tables, tablesOf, noCost, fromTables, keyFromTables}
 use Rattle.staging.specs.Reachable.{Reachable}
 use Rattle.cells.specs.Given.{given-less}
-use Rattle.solving.specs.Laws.{leaves-reachable, table-rests, choice-place, hopeless-cell}
+use Rattle.solving.specs.Laws.{leaves-reachable, table-rests, choice-place, hopeless-cell, same-pick}
 use Rattle.solving.proofs.fill_slot.Statement.{statement}
 use Rattle.solving.proofs.fill_slot.Tie as tie
 
 abbrev Inv-loop : tie.InvT-loop
 Inv-loop cost₀ choice₀ need late price opens tracks later j slots size room gone all r₀ cost choice r =
-    Stage (fromTables price opens) (costFromTables need late price) noCost (Reachable size tracks) size slots j r cost₀ choice₀ cost choice
-    × Table (fromTables price opens) (costFromTables need late price) noCost (Reachable size tracks) r (slots - suc j) (suc j) cost
+    Stage (fromTables (tablesOf need late price opens)) (keyFromTables (tablesOf need late price opens)) noCost (Reachable size tracks) size slots j r cost₀ choice₀ cost choice
+    × Table (fromTables (tablesOf need late price opens)) (keyFromTables (tablesOf need late price opens)) noCost (Reachable size tracks) r (slots - suc j) (suc j) cost
 
 abbrev μ-loop : tie.MeasureT-loop
 μ-loop cost₀ choice₀ need late price opens tracks later j slots size room gone all r₀ cost choice r = r
 
 abbrev from : tie.At-loop Inv-loop μ-loop → tie.Start Inv-loop μ-loop
 from c = c .before .before .before .before .before .before .before
+
+abbrev given : tie.Start Inv-loop μ-loop → Tables
+given s = let z = s .args in tablesOf (z .need .now) (z .late .now) (z .price .now) (z .opens .now)
 
 -- the tracks of the slots left, and of those before
 module _ (s : tie.Start Inv-loop μ-loop) where
@@ -64,24 +67,25 @@ remains c =
 
 -- what is written: none where r cannot be served, else what the walk finds
 found : (c : tie.Joined2 Inv-loop μ-loop)
-    → let z = from (c .before .before .before) .args in
+    → let s = from (c .before .before .before) in
+    let z = s .args in
     let r = c .before .before .before .loop .r - 1 in
-    (c .if2 .p .value ≡ tab (fromTables (z .price .now) (z .opens .now)) (costFromTables (z .need .now) (z .late .now) (z .price .now)) noCost (z .slots - z .j) (suc (z .j)) r)
-    × (c .if2 .p .set ≡ choice (fromTables (z .price .now) (z .opens .now)) (costFromTables (z .need .now) (z .late .now) (z .price .now)) noCost (z .slots - z .j) (suc (z .j)) r)
+    (c .if2 .p .value ≡ tab (fromTables (given s)) (keyFromTables (given s)) noCost (z .slots - z .j) (suc (z .j)) r)
+    × (c .if2 .p .set ≡ choice (fromTables (given s)) (keyFromTables (given s)) noCost (z .slots - z .j) (suc (z .j)) r)
 found c =
     let a = c .before .before .before in
     let s = from a in
     let z = s .args in
     let r = a .loop .r - 1 in
-    let ok = fromTables (z .price .now) (z .opens .now) in
-    let w = costFromTables (z .need .now) (z .late .now) (z .price .now) in
+    let ok = fromTables (given s) in
+    let w = keyFromTables (given s) in
     let left : suc (z .slots - suc (z .j)) ≡ z .slots - z .j = omega (arith, s .pre .4) in
     let (v, u) = table-cell r (a .loop .inv .1) (omega arith) (λ q hq may. leaves-reachable (s .pre .0) q (s .pre .1) (set (c .before .before)) (remains (c .before)) hq may) in
     ⊎-elim
-    (λ x. let (none, empty) = hopeless-cell (z .j) r (s .pre .0) (s .pre .1) (s .pre .2) (omega (arith, s .pre .4)) (set (c .before .before)) (x .0 .taken) in (ap (λ p. p .value) (x .1) ∙ none, ap (λ p. p .set) (x .1) ∙ empty))
-    (λ x. (
-      ap (λ p. p .value) (x .3) ∙ x .2 .ensures .0 ∙ v ∙ ap (λ k. tab ok w noCost k (suc (z .j)) r) left,
-      ap (λ p. p .set) (x .3) ∙ x .2 .ensures .1 ∙ u ∙ ap (λ k. choice ok w noCost k (suc (z .j)) r) left,
+    (λ x. same-pick (x .1) (hopeless-cell (z .j) r (s .pre .0) (s .pre .1) (s .pre .2) (omega (arith, s .pre .4)) (set (c .before .before)) (x .0 .taken)))
+    (λ x. same-pick (x .3) (
+      x .2 .ensures .0 ∙ v ∙ ap (λ k. tab ok w noCost k (suc (z .j)) r) left,
+      x .2 .ensures .1 ∙ u ∙ ap (λ k. choice ok w noCost k (suc (z .j)) r) left,
     ))
     (c .if2 .came)
 

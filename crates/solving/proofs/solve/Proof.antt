@@ -5,17 +5,17 @@ use Prim.Native.Nat.{_-_}
 use mathlib.Core.Path.{_≡_, refl, _∙_}
 use native.Mathlib.Omega.{arith}
 use lib.ListN.{length}
-use Rattle.optimum.specs.Layers.{Solved, solved-here, solved-then, solved-some}
-use Rattle.staging.specs.Tables.{fromTables, costFromTables, noCost}
+use Rattle.optimum.specs.Layers.{solved-here, solved-then, solved-some}
+use Rattle.staging.specs.Tables.{tablesOf}
 use Rattle.staging.specs.Reachable.{Reachable}
-use Rattle.solving.specs.Given.{Later}
+use Rattle.solving.specs.Given.{Later, SolvedFrom}
 use Rattle.solving.specs.Laws.{later-last, later-next}
 use Rattle.solving.proofs.solve.Statement.{statement}
 use Rattle.solving.proofs.solve.Tie as tie
 
 abbrev Inv-loop : tie.InvT-loop
 Inv-loop cost₀ choice₀ need late price opens tracks slots size j₀ later₀ cost choice j later =
-    Solved (fromTables price opens) (costFromTables need late price) noCost (Reachable size tracks) size slots j cost₀ choice₀ cost choice
+    SolvedFrom (tablesOf need late price opens) (Reachable size tracks) size slots j cost₀ choice₀ cost choice
     × Later slots j later opens
 
 abbrev μ-loop : tie.MeasureT-loop

@@ -11,10 +11,10 @@ use Rattle.valuing.proofs.first_overfull.Statement.{statement}
 use Rattle.valuing.proofs.first_overfull.Tie as tie
 
 abbrev Inv-loop : tie.InvT-loop
-Inv-loop slots n tracks count t₀ t = (t ≤ count) × (some t (overfull n tracks slots) ≡ false)
+Inv-loop row n tracks slots t₀ t = (t ≤ slots) × (some t (overfull n tracks row) ≡ false)
 
 abbrev μ-loop : tie.MeasureT-loop
-μ-loop slots n tracks count t₀ t = count - t
+μ-loop row n tracks slots t₀ t = slots - t
 
 loop-holds : tie.Need-loop-holds Inv-loop μ-loop
 loop-holds c = (search needs, no-some _)

@@ -10,10 +10,10 @@ use Rattle.valuing.proofs.first_stray.Statement.{statement}
 use Rattle.valuing.proofs.first_stray.Tie as tie
 
 abbrev Inv-loop : tie.InvT-loop
-Inv-loop first last slots n i₀ i = (i ≤ n) × (some i (strays first last slots) ≡ false)
+Inv-loop first last row n i₀ i = (i ≤ n) × (some i (strays first last row) ≡ false)
 
 abbrev μ-loop : tie.MeasureT-loop
-μ-loop first last slots n i₀ i = n - i
+μ-loop first last row n i₀ i = n - i
 
 loop-holds : tie.Need-loop-holds Inv-loop μ-loop
 loop-holds c = (search needs, no-some _)
