@@ -1,41 +1,20 @@
--- How the planning call's parts come to its answer: the best row behind the solved table, and each of the answers that the code gives.
+-- How the planning call's parts come to its answer: each of the answers that the code gives.
 -- Assumes nothing.
 use mathlib.Core.Path.{_≡_, refl, sym, ap, ap₂, _∙_, subst}
 use mathlib.Core.Bool.{true, false, _&&_}
 use mathlib.Core.List.{List, [], _∷_, _++_}
 use mathlib.Core.Option.{some}
-use Prim.Native.Nat.{ℕ, _-_, _*_, _^_, _≤_, _<_}
-use native.Mathlib.Omega.{arith}
-use lib.Dec.{T}
-use lib.ListN.{length, getD, take, drop, take-append-drop}
+use Prim.Native.Nat.{ℕ, _*_, _^_, _≤_}
+use lib.ListN.{length, take, drop, take-append-drop}
 use lib.Seq.{length-take-le}
-use Rattle.model.specs.Model.{Yard, Outcome, outcome, boundInside, SomeRow}
-use Rattle.model.specs.BestOf.{bestOf, best-is, none-is}
+use Rattle.model.specs.Model.{Yard, Outcome, outcome, boundInside}
+use Rattle.model.specs.BestOf.{bestOf, none-is}
 use Rattle.model.specs.Overbooked.{Interval, firstOverbooked}
 use Rattle.day.specs.Answer.{Answer, gives, refuses}
-use Rattle.day.specs.Sound.{dayLimits, sound}
-use Rattle.day.specs.Most.{cost-most}
+use Rattle.day.specs.Sound.{sound}
 use Rattle.day.specs.declared.Limits.{Limits}
 use Rattle.feasibility.specs.Verdict.{some-no-row}
-use Rattle.optimum.specs.Layers.{Solved}
-use Rattle.optimum.specs.Chosen.{rowIn, Leads}
-use Rattle.staging.specs.Tables.{servable, stageKey, noCost}
-use Rattle.staging.specs.Reachable.{Reachable}
-use Rattle.staging.specs.Solution.{solution-leads, solution-best, solution-some}
 use Rattle.planning.specs.Planning.{costWords, choiceWords, bestAnswer, suffices, planned, begins, placed, rowAfter, openWords, Stays}
-
--- ---- the best row behind the solved table
-
-module _ (y : Yard) {N : ℕ} {a₀ c₀ a c : List ℕ} (s : T (sound dayLimits y)) (size : N ≡ 2 ^ y .trains) (some-row : SomeRow y)
-    (solved : Solved (servable y) (stageKey y) noCost (Reachable N (y .tracks)) N (y .slots) 0 a₀ c₀ a c) where
-  found : getD a (N - 1) 0 < noCost
-  found = solution-some y size solved (some-row .0) (some-row .1) (omega (arith, cost-most y (some-row .0) s))
-
-  pub leads : Leads c (y .trains) (y .slots) N (rowIn c (y .trains) (y .slots) N)
-  leads = solution-leads y size solved found
-
-  pub best-found : bestOf y ≡ some (rowIn c (y .trains) (y .slots) N)
-  best-found = best-is y (rowIn c (y .trains) (y .slots) N) (solution-best y size solved found)
 
 -- ---- the answers, from what the code has found
 
@@ -54,13 +33,6 @@ module _ (y : Yard) where
         ∙ ap (λ k. take (y .trains) row ++ drop k row₀) (sym (length-take-le (y .trains) row long))
         ∙ sym (ap (λ o. placed o row₀) b),
   )
-
--- the best row is in the first n bytes of the row, which is otherwise unchanged; of the areas only the words of the sets are used
-pub record Placed (y : Yard) (size : ℕ) (cost₀ choice₀ row₀ cost choice row : List ℕ) : Type 0 where
-  pub best : bestOf y ≡ some (take (y .trains) row)
-  pub rest : drop (y .trains) row ≡ drop (y .trains) row₀
-  pub costs : Stays size cost₀ cost
-  pub choices : Stays (y .slots * size) choice₀ choice
 
 -- a sound day with areas that suffice: the best plan or 9
 pub record Decided (y : Yard) (size : ℕ) (cost₀ choice₀ row₀ : List ℕ) (said : Answer Outcome) (cost choice row : List ℕ) : Type 0 where

@@ -1,14 +1,14 @@
--- `planning::place_trains` meets its contract. The choices lead to the best row, since some row is allowed.
+-- `placing::place_trains` meets its contract. The choices lead to the best row, since some row is allowed.
 -- Assumes nothing.
 use mathlib.Core.Path.{sym, ap, _∙_, subst}
 use mathlib.Core.Option.{some}
 use Prim.Native.Nat.{_≤_, _*_}
 use Rattle.day.specs.Sound.{dayLimits, yard}
 use Rattle.day.specs.SoundLaws.{sound-is}
-use Rattle.planning.specs.Laws.{leads, best-found}
+use Rattle.placing.specs.Placed.{leads, best-found}
 use borrow.Author.Needs.{needs}
-use Rattle.planning.proofs.place_trains.Statement.{statement}
-use Rattle.planning.proofs.place_trains.Tie as tie
+use Rattle.placing.proofs.place_trains.Statement.{statement}
+use Rattle.placing.proofs.place_trains.Tie as tie
 
 -- the table solved, and the start, seen from it
 abbrev solved : tie.After-struct-known → tie.After-solve-day

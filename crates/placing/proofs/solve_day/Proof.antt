@@ -1,4 +1,4 @@
--- `planning::solve_day` meets its contract. The filled tables are those of the day (staging's `DayTables`), so solving them solves the day
+-- `placing::solve_day` meets its contract. The filled tables are those of the day (staging's `DayTables`), so solving them solves the day
 -- (`solved-day`).
 -- Assumes nothing.
 use mathlib.Core.Path.{_≡_, sym, subst}
@@ -15,8 +15,8 @@ use Rattle.staging.specs.SlotInRow.{rowAround, split-in-row}
 use Rattle.staging.specs.FromTables.{DayTables, room-enough, unbarred-cheap, solved-day}
 use Rattle.tables.specs.Given.{Given}
 use borrow.Author.Needs.{needs}
-use Rattle.planning.proofs.solve_day.Statement.{statement}
-use Rattle.planning.proofs.solve_day.Tie as tie
+use Rattle.placing.proofs.solve_day.Statement.{statement}
+use Rattle.placing.proofs.solve_day.Tie as tie
 
 -- ---- the places: the start, seen from where each table is filled, and these from one another
 
