@@ -43,8 +43,8 @@ enum-told c = search needs
 plan-day-requires : tie.Need-plan-day-requires
 plan-day-requires c κs = fits (c .before .before .before .before .before .before .before .before)
 
-enum-known-outcome : tie.Need-enum-known-outcome
-enum-known-outcome c = search needs
+enum-known-verdict : tie.Need-enum-known-verdict
+enum-known-verdict c = search needs
 
 tell-requires : tie.Need-tell-requires
 tell-requires c κs = fits (c .before .before .before .before .before)
@@ -66,7 +66,7 @@ returns-2 c =
     let e = c .before .before .before .before .before .before .before .before .before .before .before .before .before .before .before .before .before in
     let a = start e .args in
     let d = c .before .before .before .before .before .before .before .before .before .before .before .before .before .before .before .before in
-    let f = sym (sym (ap (λ o. answer o (yard (d .read-day .result .day))) (c .before .before .before .before .before .before .before .before .before .before .before .before .before .before .enum-told .given .1)) ∙ d .read-day .ensures .0) in
+    let f = sym (sym (ap (λ v. answer v (yard (d .read-day .result .day))) (c .before .before .before .before .before .before .before .before .before .before .before .before .before .before .enum-told .given .1)) ∙ d .read-day .ensures .0) in
     let p = plans-day dayLimits (a .text .now) (a .cost .now) (a .choice .now) (a .row .now) (a .numbers .now) (yard (d .read-day .result .day)) (room e) f (c .before .before .before .before .before .before .before .before .plan-day .ensures) in
     (p .says, (p .numbersAre, (p .rowIs, (p .written, (p .costs, p .choices)))))
 
@@ -78,8 +78,8 @@ returns-3 c =
     let e = c .before .before .before .before .before .before .before .before in
     let a = start e .args in
     let d = c .before .before .before .before .before .before .before in
-    let g = c .before .before .before .before .before .outcome .given in
-    let f = sym (sym (ap (λ o. answer o (yard (d .read-day .result .day))) (g .1)) ∙ d .read-day .ensures .0) in
+    let g = c .before .before .before .before .before .verdict .given in
+    let f = sym (sym (ap (λ v. answer v (yard (d .read-day .result .day))) (g .1)) ∙ d .read-day .ensures .0) in
     let p = plans-refused dayLimits (a .text .now) (a .cost .now) (a .choice .now) (a .row .now) (a .numbers .now) (g .0 .0) (room e) f (c .before .before .tell .ensures) in
     (p .says, (p .numbersAre, (p .rowIs, (p .written, (p .costs, p .choices)))))
 
@@ -92,7 +92,7 @@ plan-text-spec =
     read-day-requires
     enum-told
     plan-day-requires
-    enum-known-outcome
+    enum-known-verdict
     tell-requires
     same-length
     same-length-2

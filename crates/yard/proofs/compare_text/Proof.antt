@@ -30,8 +30,8 @@ enum-told c = search needs
 compare-day-requires : tie.Need-compare-day-requires
 compare-day-requires c κs = leb→le 3 _ (of-true (sym (c .before .before .before .before .before .before .is-room .ensures) ∙ not-false (c .before .before .before .before .before .before .is-room .result) (c .before .before .before .before .before .if1 .left)))
 
-enum-known-outcome : tie.Need-enum-known-outcome
-enum-known-outcome c = search needs
+enum-known-verdict : tie.Need-enum-known-verdict
+enum-known-verdict c = search needs
 
 tell-requires : tie.Need-tell-requires
 tell-requires c κs = leb→le 3 _ (of-true (sym (c .before .before .before .before .before .before .is-room .ensures) ∙ not-false (c .before .before .before .before .before .before .is-room .result) (c .before .before .before .before .before .if1 .left)))
@@ -43,7 +43,7 @@ returns-2 : tie.Need-returns-2
 returns-2 c = let s = c .before .before .before .before .before .before .before .before .before .before .before .before in
     let d = c .before .before .before .before .before .before .before in
     let row = rowBy (s .args .procedure) in
-    let e = sym (ap (λ o. answer o (yard (d .read-day .result .day))) (c .before .before .before .before .before .enum-told .given .1)) ∙ d .read-day .ensures .0 in
+    let e = sym (ap (λ v. answer v (yard (d .read-day .result .day))) (c .before .before .before .before .before .enum-told .given .1)) ∙ d .read-day .ensures .0 in
     let f = sym (ap (λ r. onGiven r λ y. compared dayLimits y (row y) costArea choiceArea) e) in
     told-saving dayLimits (now (s .args .text)) (now (s .args .numbers)) row (sym (c .before .before .before .before .before .before .before .before .before .is-room .ensures) ∙ not-false (c .before .before .before .before .before .before .before .before .before .is-room .result) (c .before .before .before .before .before .before .before .before .if1 .left)) f (c .before .before .compare-day .ensures)
 
@@ -54,9 +54,9 @@ returns-3 : tie.Need-returns-3
 returns-3 c = let s = c .before .before .before .before .before .before .before .before .before .before .before .before in
     let d = c .before .before .before .before .before .before .before in
     let row = rowBy (s .args .procedure) in
-    let e = sym (ap (λ o. answer o (yard (d .read-day .result .day))) (c .before .before .before .before .before .outcome .given .1)) ∙ d .read-day .ensures .0 in
+    let e = sym (ap (λ v. answer v (yard (d .read-day .result .day))) (c .before .before .before .before .before .verdict .given .1)) ∙ d .read-day .ensures .0 in
     let f = sym (ap (λ r. onGiven r λ y. compared dayLimits y (row y) costArea choiceArea) e) in
-    told-saving dayLimits (now (s .args .text)) (now (s .args .numbers)) row (sym (c .before .before .before .before .before .before .before .before .before .is-room .ensures) ∙ not-false (c .before .before .before .before .before .before .before .before .before .is-room .result) (c .before .before .before .before .before .before .before .before .if1 .left)) f (told-refused (c .before .before .before .before .before .outcome .given .0 .0) (c .before .before .tell .ensures))
+    told-saving dayLimits (now (s .args .text)) (now (s .args .numbers)) row (sym (c .before .before .before .before .before .before .before .before .before .is-room .ensures) ∙ not-false (c .before .before .before .before .before .before .before .before .before .is-room .result) (c .before .before .before .before .before .before .before .before .if1 .left)) f (told-refused (c .before .before .before .before .before .verdict .given .0 .0) (c .before .before .tell .ensures))
 
 pub compare-text-spec : {M : Type 1} → statement M
 compare-text-spec =
@@ -67,7 +67,7 @@ compare-text-spec =
     read-day-requires
     enum-told
     compare-day-requires
-    enum-known-outcome
+    enum-known-verdict
     tell-requires
     same-length
     returns-2

@@ -29,8 +29,8 @@ enum-told c = search needs
 value-day-requires : tie.Need-value-day-requires
 value-day-requires c κs = leb→le 3 _ (of-true (sym (c .before .before .before .before .before .is-room .ensures) ∙ not-false (c .before .before .before .before .before .is-room .result) (c .before .before .before .before .if1 .left)))
 
-enum-known-outcome : tie.Need-enum-known-outcome
-enum-known-outcome c = search needs
+enum-known-verdict : tie.Need-enum-known-verdict
+enum-known-verdict c = search needs
 
 tell-requires : tie.Need-tell-requires
 tell-requires c κs = leb→le 3 _ (of-true (sym (c .before .before .before .before .before .before .is-room .ensures) ∙ not-false (c .before .before .before .before .before .before .is-room .result) (c .before .before .before .before .before .if1 .left)))
@@ -40,7 +40,7 @@ same-length c = search needs
 
 returns-2 : tie.Need-returns-2
 returns-2 c = let d = c .before .before .before .before .before .before in
-    let e = sym (ap (λ o. answer o (yard (d .read-day .result .day))) (c .before .before .before .before .enum-told .given .1)) ∙ d .read-day .ensures .0 in
+    let e = sym (ap (λ v. answer v (yard (d .read-day .result .day))) (c .before .before .before .before .enum-told .given .1)) ∙ d .read-day .ensures .0 in
     let f = sym (ap (λ r. onGiven r λ y. valued dayLimits y (now (c .before .before .before .before .before .before .before .before .before .before .before .before .args .row))) e) in
     told-value _ _ _ _ (sym (c .before .before .before .before .before .before .before .before .is-room .ensures) ∙ not-false (c .before .before .before .before .before .before .before .before .is-room .result) (c .before .before .before .before .before .before .before .if1 .left)) f (c .before .before .value-day .ensures)
 
@@ -49,7 +49,7 @@ same-length-2 c = search needs
 
 returns-3 : tie.Need-returns-3
 returns-3 c = let d = c .before .before .before .before .before .before .before in
-    let e = sym (ap (λ o. answer o (yard (d .read-day .result .day))) (c .before .before .before .before .before .outcome .given .1)) ∙ d .read-day .ensures .0 in
+    let e = sym (ap (λ v. answer v (yard (d .read-day .result .day))) (c .before .before .before .before .before .verdict .given .1)) ∙ d .read-day .ensures .0 in
     let f = sym (ap (λ r. onGiven r λ y. valued dayLimits y (now (c .before .before .before .before .before .before .before .before .before .before .before .before .before .args .row))) e) in
     told-value _ _ _ _ (sym (c .before .before .before .before .before .before .before .before .before .is-room .ensures) ∙ not-false (c .before .before .before .before .before .before .before .before .before .is-room .result) (c .before .before .before .before .before .before .before .before .if1 .left)) f (c .before .before .tell .ensures)
 
@@ -62,7 +62,7 @@ yard-value-spec =
     read-day-requires
     enum-told
     value-day-requires
-    enum-known-outcome
+    enum-known-verdict
     tell-requires
     same-length
     returns-2
