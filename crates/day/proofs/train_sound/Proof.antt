@@ -50,6 +50,7 @@ shared-slice-read-result-3 c = search needs
 returns : tie.Need-returns
 unfolding trainSound
 returns c =
+    -- the calls, from the last one
     let n = c .before .before .before in
     let w = n .before in
     let last = w .before in

@@ -8,17 +8,18 @@ use borrow.Author.Needs.{needs}
 use Rattle.day_text.proofs.put_file.Statement.{statement}
 use Rattle.day_text.proofs.put_file.Tie as tie
 
--- where the function began, from the place before the head's values are widened and from the one after; the day that is written; the place
--- after the first section, from the one after the second
+-- where the function began, from the place before the head's values are widened and from the one after
 abbrev entry : tie.After-put-head-arg → tie.Start
 entry c = c .before .before .before .before .before .before
 
 abbrev start : tie.After-struct-known4 → tie.Start
 start c = entry (c .before .before .before .before)
 
+-- the day that is written
 abbrev day : tie.Start → Yard
 day s = let a = s .args in dayFrom (a .head) (a .numbers .now) (a .first .now) (a .last .now) (a .width) (a .boxes .now)
 
+-- the place after the first section, from the one after the second
 abbrev past-head : tie.After-put-trains → tie.After-put-head
 past-head c = c .before .before .before .before
 
