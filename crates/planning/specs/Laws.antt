@@ -16,7 +16,7 @@ use Rattle.day.specs.Answer.{Answer, gives, refuses}
 use Rattle.day.specs.Sound.{dayLimits, sound}
 use Rattle.day.specs.Most.{cost-most}
 use Rattle.day.specs.declared.Limits.{Limits}
-use Rattle.feasibility.specs.Verdict.{SomeRow, some-no-row}
+use Rattle.feasibility.specs.RowOrNone.{SomeRow, some-no-row}
 use Rattle.optimum.specs.Layers.{Solved}
 use Rattle.optimum.specs.Chosen.{rowIn, Leads}
 use Rattle.staging.specs.Tables.{servable, slotCost, noCost}

@@ -10,7 +10,7 @@ ghost use lib.Dec.{T, leb};
 ghost use lib.ListN.{length};
 ghost use Rattle.day.specs.Sound.{dayLimits, yard, sound};
 ghost use Rattle.planning.specs.Planning.{answer, costWords, choiceWords, planned, begins, rowAfter, openWords, Stays};
-ghost use Rattle.feasibility.specs.Verdict.{SomeRow};
+ghost use Rattle.feasibility.specs.RowOrNone.{SomeRow};
 ghost use Rattle.optimum.specs.Layers.{Solved};
 ghost use Rattle.staging.specs.Tables.{servable, slotCost, noCost};
 ghost use Rattle.staging.specs.Reachable.{Reachable};

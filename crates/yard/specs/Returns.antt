@@ -32,7 +32,7 @@ use Rattle.dayfile.specs.RoundTrip.{read-sound}
 use Rattle.dayfile.specs.Refused.{Lined, read-lined}
 use Rattle.valuing.specs.Valuing.{valued}
 use Rattle.valuing.specs.Laws.{valued-only, valued-allowed, allowed-valued}
-use Rattle.feasibility.specs.Verdict.{SomeRow}
+use Rattle.feasibility.specs.RowOrNone.{SomeRow}
 use Rattle.planning.specs.Planning.{planned}
 use Rattle.planning.specs.Answers.{areas-suffice, planned-only, from-best}
 use Rattle.baselines.specs.Baselines.{Comparison, compared}
