@@ -19,7 +19,7 @@ use Rattle.day.specs.SoundLaws.{sound-is}
 use Rattle.dayfile.specs.Reading.{readDay}
 use Rattle.dayfile.specs.RoundTrip.{read-sound}
 use Rattle.dayfile.specs.Refused.{Lined, read-lined}
-use Rattle.feasibility.specs.Verdict.{no-row-over}
+use Rattle.feasibility.specs.RowOrNone.{no-row-over}
 use Rattle.planning.specs.Planning.{carriedBy}
 use Rattle.planfile.specs.PlanText.{planLines}
 use Rattle.answering.specs.Answering.{refusalText, dayReply, reply, answerText}

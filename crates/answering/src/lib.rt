@@ -16,7 +16,7 @@ ghost use Rattle.planfile.specs.Size.{planBytes};
 ghost use Rattle.answering.specs.Answering.{refusalText, dayReply, answerText, answerWrites, answerLeaves};
 use day::Day;
 use day::Refusal;
-use dayread::Outcome;
+use day::Verdict;
 use output::Wrote;
 use planning::Planned;
 
@@ -60,10 +60,10 @@ fn put_answer(text: &[u8], out: &mut [u8]) -> usize
     ensures { λ r. ⌜ Put (now (out .entry)) (now (out .exit)) 0 r (answerText dayLimits (now (text .entry))) × (r ≤ planBytes) ⌝ }
 {
     let reading = dayread::read_day(text);
-    let outcome = reading.outcome;
-    match outcome {
-        Outcome::Refused(refusal) => put_refusal(out, refusal),
-        Outcome::Accepted => put_best(out, reading.day),
+    let verdict = reading.verdict;
+    match verdict {
+        Verdict::Refused(refusal) => put_refusal(out, refusal),
+        Verdict::Accepted => put_best(out, reading.day),
     }
 }
 

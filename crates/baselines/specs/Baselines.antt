@@ -8,14 +8,14 @@ use lib.IntN.{ℤ, pos, _-ℤ_}
 use Rattle.model.specs.Model.{Yard, Outcome, outcome, cost}
 use Rattle.day.specs.Answer.{Answer, gives, refuses, refusal, onGiven, Check, must, checked}
 use Rattle.day.specs.declared.Limits.{Limits}
+use Rattle.day.specs.declared.Verdict.{Verdict}
+use Rattle.day.specs.declared.Verdict.the-variants.{Accepted, Refused}
 use Rattle.counting.specs.Counting.{outcomeOf, noOutcome}
 use Rattle.planning.specs.Planning.{costWords, choiceWords, planned, begins, openWords}
 use Rattle.procedures.specs.Procedures.{leftOver, firstCome, myopic}
 use Rattle.baselines.specs.declared.Baseline.{Baseline}
 use Rattle.baselines.specs.declared.Procedure.{Procedure}
 use Rattle.baselines.specs.declared.Procedure.the-variants.{FirstCome, Myopic}
-use Rattle.baselines.specs.declared.Verdict.{Verdict}
-use Rattle.baselines.specs.declared.Verdict.the-variants.{Compared, Refused}
 
 -- a row's three numbers, and its cost less the planned cost
 pub record Comparison : Type 0 where
@@ -33,7 +33,7 @@ abbrev pub comparisonOf : Baseline → Comparison
 comparisonOf b = record { outcome = outcomeOf (b .value); saving = b .saving }
 
 abbrev pub answer : Verdict → Comparison → Answer Comparison
-answer Compared c = gives c
+answer Accepted c = gives c
 answer (Refused r) c = refusal r
 
 -- the numbers beside the answer, zeros with a refusal

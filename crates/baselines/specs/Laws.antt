@@ -15,13 +15,13 @@ use Rattle.day.specs.Sound.{dayLimits, sound}
 use Rattle.day.specs.Most.{cost-most}
 use Rattle.day.specs.declared.Limits.{Limits}
 use Rattle.fold.specs.Listed.{take-front}
+use Rattle.day.specs.declared.Verdict.the-variants.{Accepted}
 use Rattle.counting.specs.Counting.{outcomeOf}
 use Rattle.counting.specs.declared.Value.{Value}
 use Rattle.planning.specs.Planning.{planned}
 use Rattle.procedures.specs.Procedures.{leftOver}
 use Rattle.baselines.specs.Baselines.{Comparison, comparisonOf, answer, comparisonOrZero, against, compared}
 use Rattle.baselines.specs.declared.Baseline.{Baseline}
-use Rattle.baselines.specs.declared.Verdict.the-variants.{Compared}
 
 -- the code's record says an answer, with its numbers or zeros beside it
 pub record Says (a : Answer Comparison) (b : Baseline) : Type 0 where
@@ -38,7 +38,7 @@ module _ (y : Yard) (row : List ℕ) (best : ℕ) {k : ℕ} (found : k ≡ leftO
 
   -- every train has one
   pub says-complete : {v : Value} {s : ℤ} → k ≡ y .trains → outcomeOf v ≡ outcome y row → s ≡ pos (v .cost) -ℤ pos best
-      → Says (against y row best) record { verdict = Compared; value = v; saving = s }
+      → Says (against y row best) record { verdict = Accepted; value = v; saving = s }
   unfolding against cost
   says-complete {v} {s} h e f =
       let said : against y row best ≡ gives record { outcome = outcome y row; saving = pos (cost y row) -ℤ pos best } = rw (← found, eq-eqb k (y .trains) h) in

@@ -17,17 +17,13 @@ ghost use Rattle.baselines.specs.Laws.{Says};
 use counting::Value;
 use day::Day;
 use day::Refusal;
+use day::Verdict;
 use planning::Planned;
 
 // The procedures that planning is compared with.
 pub enum Procedure {
     FirstCome,
     Myopic,
-}
-
-pub enum Verdict {
-    Compared,
-    Refused(Refusal),
 }
 
 // The three numbers of a procedure's row, and the saving, its cost less the planned cost; zeros with a refusal.
@@ -60,7 +56,7 @@ fn compare(day: Day, row: &[u8], best: u64) -> Baseline
     let boxes = day.boxes;
     let value = counting::value_slots(&boxes, 12, row, n, day.revisit, day.split);
     Baseline {
-        verdict: Verdict::Compared,
+        verdict: Verdict::Accepted,
         value: value,
         saving: procedures::saving_of(value.cost, best),
     }

@@ -63,6 +63,12 @@ pub enum Refusal {
     WithoutSlot(usize),
 }
 
+// What a call says beside the numbers or the day that it gives: accepted, or the refusal.
+pub enum Verdict {
+    Accepted,
+    Refused(Refusal),
+}
+
 // The limits of document 01; that of train numbers is order 2's of document 02.
 pub fn day_limits() -> Limits
     ensures { λ r. ⌜ r ≡ dayLimits ⌝ }

@@ -13,25 +13,25 @@ use Rattle.day.specs.Sound.{dayFrom, headRanges}
 use Rattle.day.specs.SoundLaws.{within-is}
 use Rattle.day.specs.declared.Limits.{Limits}
 use Rattle.day.specs.declared.Refusal.{Refusal}
+use Rattle.day.specs.declared.Verdict.{Verdict}
+use Rattle.day.specs.declared.Verdict.the-variants.{Accepted, Refused}
 use Rattle.dayfile.specs.Reading.{field1, field2, field3, headChecks, headNames, readNames, readRow, headSection, trainSection, moveSection, readFile, padded, dayOf, readDay}
 use Rattle.dayfile.specs.Files.{row-line-read}
 use Rattle.dayfile.specs.Calls.{zeroDay, dayOrZero}
 use Rattle.day_rows.specs.Steps.{rowRest, RowTo}
 use Rattle.day_sections.specs.Sections.{TrainsRead, MovesRead}
-use Rattle.dayread.specs.declared.Outcome.{Outcome}
-use Rattle.dayread.specs.declared.Outcome.the-variants.{Accepted, Refused}
 use Rattle.dayread.specs.declared.FileRead.{FileRead}
 use Rattle.dayread.specs.declared.FileRead.the-variants.{Accepted as Is, Refused as IsNot}
 
 -- ---- what the reading call answers
 
-abbrev pub answer : Outcome → Yard → Answer Yard
+abbrev pub answer : Verdict → Yard → Answer Yard
 answer Accepted y = gives y
 answer (Refused x) y = refusal x
 
 -- the answer is what reading says, and the day beside it is the one read, or zeros
-abbrev pub Reads : Limits → List ℕ → Outcome → Yard → Type 0
-Reads l t outcome y = (answer outcome y ≡ readDay l t) × (y ≡ dayOrZero l (readDay l t))
+abbrev pub Reads : Limits → List ℕ → Verdict → Yard → Type 0
+Reads l t verdict y = (answer verdict y ≡ readDay l t) × (y ≡ dayOrZero l (readDay l t))
 
 -- ---- a text read into columns and a table, for any limits
 

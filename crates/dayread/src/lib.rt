@@ -14,18 +14,13 @@ use day::Day;
 use day::Head;
 use day::Limits;
 use day::Refusal;
+use day::Verdict;
 use day_rows::Step;
 use lines::Line;
 
-// Whether a text was accepted, else its refusal 1 to 7.
-pub enum Outcome {
-    Accepted,
-    Refused(Refusal),
-}
-
-// What reading answers; with a refusal the day is a record of zeros.
+// What reading answers: the day, or a refusal 1 to 7 beside a record of zeros.
 pub struct Reading {
-    pub outcome: Outcome,
+    pub verdict: Verdict,
     pub day: Day,
 }
 
@@ -96,7 +91,7 @@ pub fn read_file(
 
 // Reads a day file.
 pub fn read_day(text: &[u8]) -> Reading
-    ensures { λ r. ⌜ (answer (r .outcome) (yard (r .day)) ≡ readDay dayLimits (now (text .entry))) × (yard (r .day) ≡ dayOrZero dayLimits (readDay dayLimits (now (text .entry)))) ⌝ }
+    ensures { λ r. ⌜ (answer (r .verdict) (yard (r .day)) ≡ readDay dayLimits (now (text .entry))) × (yard (r .day) ≡ dayOrZero dayLimits (readDay dayLimits (now (text .entry)))) ⌝ }
 {
     let mut numbers: [u32; 12] = [0; 12];
     let mut first: [u8; 12] = [0; 12];
@@ -112,7 +107,7 @@ pub fn read_day(text: &[u8]) -> Reading
     );
     match read {
         FileRead::Accepted(head) => Reading {
-            outcome: Outcome::Accepted,
+            verdict: Verdict::Accepted,
             day: Day {
                 trains: head.trains,
                 tracks: head.tracks,
@@ -126,7 +121,7 @@ pub fn read_day(text: &[u8]) -> Reading
             },
         },
         FileRead::Refused(refusal) => Reading {
-            outcome: Outcome::Refused(refusal),
+            verdict: Verdict::Refused(refusal),
             day: zero_day(),
         },
     }

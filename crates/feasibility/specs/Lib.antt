@@ -4,5 +4,5 @@ pub mod Earliest
 pub mod Partial
 pub mod Placing
 pub mod RowExists
-pub mod Verdict
+pub mod RowOrNone
 pub mod Search

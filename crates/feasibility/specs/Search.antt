@@ -11,7 +11,7 @@ use Rattle.fold.specs.Fold.{below-suc}
 use Rattle.fold.specs.Counting.{le-or-lt}
 use Rattle.model.specs.Model.{Yard, boundInside, exceeds, overbooked}
 use Rattle.model.specs.Overbooked.{firstOverbooked, overbookedFrom, overbookedFirst, overbookedLast, overbooked-range, first-is}
-use Rattle.feasibility.specs.Verdict.{spacious-none}
+use Rattle.feasibility.specs.RowOrNone.{spacious-none}
 use Rattle.feasibility.specs.declared.Overbooked.{Overbooked}
 use Rattle.feasibility.specs.declared.Overbooked.the-variants.{Interval, Nowhere}
 

@@ -30,7 +30,7 @@ use Rattle.day.specs.AnswerLaws.{gives-same}
 use Rattle.day.specs.Sound.{sound}
 use Rattle.day.specs.SoundLaws.{sound-is}
 use Rattle.day.specs.declared.Limits.{Limits}
-use Rattle.feasibility.specs.Verdict.{no-row-over}
+use Rattle.feasibility.specs.RowOrNone.{no-row-over}
 use Rattle.planning.specs.Planning.{costWords, choiceWords, suffices, begins, bestAnswer, carriedBy, planned, placed, rowAfter, openWords, Stays}
 use Rattle.planning.specs.Answers.{planned-begun, row-begun}
 

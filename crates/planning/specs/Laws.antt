@@ -13,7 +13,7 @@ use Rattle.model.specs.Overbooked.{Interval, firstOverbooked}
 use Rattle.day.specs.Answer.{Answer, gives, refuses}
 use Rattle.day.specs.Sound.{sound}
 use Rattle.day.specs.declared.Limits.{Limits}
-use Rattle.feasibility.specs.Verdict.{some-no-row}
+use Rattle.feasibility.specs.RowOrNone.{some-no-row}
 use Rattle.planning.specs.Planning.{costWords, choiceWords, bestAnswer, suffices, planned, begins, placed, rowAfter, openWords, Stays}
 
 -- ---- the answers, from what the code has found

@@ -27,7 +27,7 @@ use Rattle.day.specs.SoundLaws.{sound-is}
 use Rattle.day.specs.declared.Limits.{Limits}
 use Rattle.dayfile.specs.Reading.{readDay}
 use Rattle.dayfile.specs.RoundTrip.{read-sound}
-use Rattle.feasibility.specs.Verdict.{no-row-over}
+use Rattle.feasibility.specs.RowOrNone.{no-row-over}
 use Rattle.planning.specs.Planning.{costWords, choiceWords, bestAnswer, carriedBy, planned, begins, placed, rowAfter, openWords, Stays}
 use Rattle.planning.specs.Answers.{planned-begun, row-begun, refuses-only}
 use Rattle.planning.specs.Demand.{memory-suffices, memory-after}

@@ -12,7 +12,7 @@ ghost use Rattle.telling.specs.Telling.{numbersAfter};
 ghost use Rattle.textplan.specs.TextPlan.{planFor, rowFor, openFor, slotsFor};
 ghost use Rattle.textplan.specs.Laws.{PlansDay};
 use day::Day;
-use dayread::Outcome;
+use day::Verdict;
 use planning::Planned;
 
 // Plans a day that was read, and tells the three numbers or the refusal.
@@ -63,9 +63,9 @@ pub fn plan_text(
         return 10;
     }
     let reading = dayread::read_day(text);
-    let outcome = reading.outcome;
-    match outcome {
-        Outcome::Accepted => plan_day(reading.day, cost, choice, row, numbers, trains),
-        Outcome::Refused(refusal) => telling::tell(numbers, refusal),
+    let verdict = reading.verdict;
+    match verdict {
+        Verdict::Accepted => plan_day(reading.day, cost, choice, row, numbers, trains),
+        Verdict::Refused(refusal) => telling::tell(numbers, refusal),
     }
 }

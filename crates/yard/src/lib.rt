@@ -21,9 +21,8 @@ ghost use Rattle.yard.specs.Interface.{version, costArea, choiceArea, co
 ghost use Rattle.yard.specs.Laws.{ToldSaving};
 use baselines::Baseline;
 use baselines::Procedure;
-use baselines::Verdict;
 use day::Day;
-use dayread::Outcome;
+use day::Verdict;
 use output::Wrote;
 use valuing::Valued;
 
@@ -100,13 +99,13 @@ pub extern "C" fn yard_check(text: &[u8], at: &mut u64) -> u64
     ensures { λ _. ⌜ now (at .exit) ≡ line (readDay dayLimits (now (text .entry))) ⌝ }
 {
     let reading = dayread::read_day(text);
-    let outcome = reading.outcome;
-    match outcome {
-        Outcome::Accepted => {
+    let verdict = reading.verdict;
+    match verdict {
+        Verdict::Accepted => {
             *at = 0;
             0
         }
-        Outcome::Refused(refusal) => {
+        Verdict::Refused(refusal) => {
             let told = refusals::in_numbers(refusal);
             *at = told.first;
             told.number
@@ -139,10 +138,10 @@ pub extern "C" fn yard_value(text: &[u8], row: &[u8], numbers: &mut [u64]) -> u6
         return 10;
     }
     let reading = dayread::read_day(text);
-    let outcome = reading.outcome;
-    match outcome {
-        Outcome::Accepted => value_day(reading.day, row, numbers),
-        Outcome::Refused(refusal) => telling::tell(numbers, refusal),
+    let verdict = reading.verdict;
+    match verdict {
+        Verdict::Accepted => value_day(reading.day, row, numbers),
+        Verdict::Refused(refusal) => telling::tell(numbers, refusal),
     }
 }
 
@@ -158,7 +157,7 @@ fn tell_baseline(baseline: Baseline, numbers: &mut [u64], saving: &mut i64) -> u
     *saving = saved;
     let verdict = baseline.verdict;
     match verdict {
-        Verdict::Compared => {
+        Verdict::Accepted => {
             telling::store_value(numbers, baseline.value);
             0
         }
@@ -187,10 +186,10 @@ fn compare_text(procedure: Procedure, text: &[u8], numbers: &mut [u64], saving: 
         return 10;
     }
     let reading = dayread::read_day(text);
-    let outcome = reading.outcome;
-    match outcome {
-        Outcome::Accepted => compare_day(procedure, reading.day, numbers, saving),
-        Outcome::Refused(refusal) => telling::tell(numbers, refusal),
+    let verdict = reading.verdict;
+    match verdict {
+        Verdict::Accepted => compare_day(procedure, reading.day, numbers, saving),
+        Verdict::Refused(refusal) => telling::tell(numbers, refusal),
     }
 }
 

@@ -15,19 +15,19 @@ accepted : (c : tie.After-enum-told) → let r = c .before .before .read-day .re
     gives (yard (r .day)) ≡ readDay dayLimits (c .before .before .before .before .before .args .text .now)
 accepted c =
     let d = c .before .before in
-    sym (ap (λ o. answer o (yard (d .read-day .result .day))) (c .enum-told .given .1)) ∙ d .read-day .ensures .0
+    sym (ap (λ v. answer v (yard (d .read-day .result .day))) (c .enum-told .given .1)) ∙ d .read-day .ensures .0
 
 refused : (c : tie.After-known-told) →
-    refusal (c .before .outcome .given .0 .0) ≡ readDay dayLimits (c .before .before .before .before .before .before .args .text .now)
+    refusal (c .before .verdict .given .0 .0) ≡ readDay dayLimits (c .before .before .before .before .before .before .args .text .now)
 refused c =
     let d = c .before .before .before in
-    sym (ap (λ o. answer o (yard (d .read-day .result .day))) (c .before .outcome .given .1)) ∙ d .read-day .ensures .0
+    sym (ap (λ v. answer v (yard (d .read-day .result .day))) (c .before .verdict .given .1)) ∙ d .read-day .ensures .0
 
 read-day-requires : tie.Need-read-day-requires
 read-day-requires c κs = search needs
 
-enum-known-outcome : tie.Need-enum-known-outcome
-enum-known-outcome c = search needs
+enum-known-verdict : tie.Need-enum-known-verdict
+enum-known-verdict c = search needs
 
 put-refusal-requires : tie.Need-put-refusal-requires
 put-refusal-requires c κs = search needs
@@ -44,7 +44,7 @@ same-length c = search needs
 returns : tie.Need-returns
 returns c =
     let f = c .before .before in
-    rw (← refused-answer dayLimits _ (f .before .before .before .outcome .given .0 .0) (refused (f .before .before))) (f .put-refusal .ensures)
+    rw (← refused-answer dayLimits _ (f .before .before .before .verdict .given .0 .0) (refused (f .before .before))) (f .put-refusal .ensures)
 
 same-length-2 : tie.Need-same-length-2
 same-length-2 c = search needs
@@ -59,7 +59,7 @@ put-answer-spec =
     tie.close
     (tie.spec
     read-day-requires
-    enum-known-outcome
+    enum-known-verdict
     put-refusal-requires
     enum-told
     put-best-requires

@@ -2,13 +2,16 @@
 -- Assumes nothing.
 use mathlib.Core.Path.{_∙_, subst}
 use lib.ListN.{length}
-use denote.Ref.{now}
 use Rattle.day.specs.Sound.{dayLimits, yard}
 use Rattle.planning.specs.Planning.{costWords, choiceWords, openWords, Stays}
 use Rattle.planning.specs.Answers.{same-begins, same-planned}
 use borrow.Author.Needs.{needs}
 use Rattle.baselines.proofs.plan_cost.Statement.{statement}
 use Rattle.baselines.proofs.plan_cost.Tie as tie
+
+-- where the function began, from the place after planning
+abbrev start : tie.After-plan → tie.Start
+start c = c .before .before .before .before .before .before
 
 slice-aggregate-plan : tie.Need-slice-aggregate-plan
 slice-aggregate-plan c = search needs
@@ -23,15 +26,18 @@ same-length-2 : tie.Need-same-length-2
 same-length-2 c = search needs
 
 returns : tie.Need-returns
-returns c = let s = c .before .before .before .before .before .before .before .before .before .before .before in
+returns c =
     let p = c .before .before .before .before .before in
-    let y = yard (s .args .day) in
-    let k = length (now (s .args .cost)) in
-    let m = length (now (s .args .choice)) in (
-      p .plan .ensures .0 ∙ same-planned dayLimits y k m,
+    let a = start p .args in
+    let y = yard (a .day) in
+    let k = length (a .cost .now) in
+    let m = length (a .choice .now) in
+    let l = p .plan .last .1 in
+    let e = p .plan .ensures in (
+      e .0 ∙ same-planned dayLimits y k m,
       (
-        subst (λ b. Stays (openWords b (costWords y)) (now (s .args .cost)) (p .plan .last .1 .0)) (same-begins dayLimits y k m) (p .plan .ensures .1 .1 .0),
-        subst (λ b. Stays (openWords b (choiceWords y)) (now (s .args .choice)) (p .plan .last .1 .1 .0)) (same-begins dayLimits y k m) (p .plan .ensures .1 .1 .1),
+        subst (λ b. Stays (openWords b (costWords y)) (a .cost .now) (l .0)) (same-begins dayLimits y k m) (e .1 .1 .0),
+        subst (λ b. Stays (openWords b (choiceWords y)) (a .choice .now) (l .1 .0)) (same-begins dayLimits y k m) (e .1 .1 .1),
       ),
     )
 

@@ -49,7 +49,14 @@ shared-slice-read-result-3 c = search needs
 
 returns : tie.Need-returns
 unfolding trainSound
-returns c = rw (c .before .before .before .before .train-within .ensures, c .before .before .before .before .before .before .before .before .before .before .before .wide8 .ensures .0, c .before .before .before .before .before .before .before .before .before .wide32 .ensures .0, c .before .before .before .before .before .before .before .wide82 .ensures .0, c .before .before .before .before .before .wide83 .ensures .0, c .before .before .before .number-before .ensures)
+returns c =
+    -- the calls, from the last one
+    let n = c .before .before .before in
+    let w = n .before in
+    let last = w .before in
+    let first = last .before .before in
+    let number = first .before .before in
+    rw (w .train-within .ensures, number .before .before .wide8 .ensures .0, number .wide32 .ensures .0, first .wide82 .ensures .0, last .wide83 .ensures .0, n .number-before .ensures)
 
 pub train-sound-spec : {M : Type 1} → statement M
 train-sound-spec =

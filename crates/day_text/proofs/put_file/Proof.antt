@@ -8,13 +8,18 @@ use borrow.Author.Needs.{needs}
 use Rattle.day_text.proofs.put_file.Statement.{statement}
 use Rattle.day_text.proofs.put_file.Tie as tie
 
--- where the function began, the day that is written, and the place after the first section and after the second
-abbrev start : tie.After-put-head → tie.Start
-start c = c .before .before .before .before .before .before .before .before .before .before .before
+-- where the function began, from the place before the head's values are widened and from the one after
+abbrev entry : tie.After-put-head-arg → tie.Start
+entry c = c .before .before .before .before .before .before
 
+abbrev start : tie.After-struct-known4 → tie.Start
+start c = entry (c .before .before .before .before)
+
+-- the day that is written
 abbrev day : tie.Start → Yard
 day s = let a = s .args in dayFrom (a .head) (a .numbers .now) (a .first .now) (a .last .now) (a .width) (a .boxes .now)
 
+-- the place after the first section, from the one after the second
 abbrev past-head : tie.After-put-trains → tie.After-put-head
 past-head c = c .before .before .before .before
 
@@ -31,12 +36,12 @@ cast-put-head-4 : tie.Need-cast-put-head-4
 cast-put-head-4 c = search needs
 
 put-head-requires : tie.Need-put-head-requires
-put-head-requires c κs = let s = c .before .before .before .before .before .before .before .before .before .before in omega (arith, day-length (day s), s .pre .1)
+put-head-requires c κs = let s = start c in omega (arith, day-length (day s), s .pre .1)
 
 put-trains-requires : tie.Need-put-trains-requires
 put-trains-requires c κs =
     let h = c .before .before .before in
-    let s = start h in
+    let s = start (h .before) in
     let p = s .pre .0 in
     ((p .0, p .1 .0, p .1 .1 .0), omega (arith, day-length (day s), s .pre .1, h .put-head .kept .0, h .put-head .ensures .next))
 
@@ -44,7 +49,7 @@ put-moves-requires : tie.Need-put-moves-requires
 put-moves-requires c κs =
     let t = c .before .before .before in
     let h = past-head t in
-    let s = start h in
+    let s = start (h .before) in
     (s .pre .0 .1 .1 .1, omega (arith, day-length (day s), s .pre .1, h .put-head .kept .0, h .put-head .ensures .next, t .put-trains .kept .0, t .put-trains .ensures .next))
 
 same-length : tie.Need-same-length
@@ -55,7 +60,7 @@ returns c =
     let m = c .before .before in
     let t = m .before .before .before .before in
     let h = past-head t in
-    put-sections (day (start h)) (h .put-head .ensures) (t .put-trains .ensures) (m .put-moves .ensures)
+    put-sections (day (start (h .before))) (h .put-head .ensures) (t .put-trains .ensures) (m .put-moves .ensures)
 
 pub put-file-spec : {M : Type 1} → statement M
 put-file-spec =

@@ -32,8 +32,10 @@ same-length c = search needs
 returns : tie.Need-returns
 unfolding headNames
 returns c =
-    let s = c .before .before .before .before .before .before .before .before .before .before .args in
-    put-text {b = rowText (s .trains ∷ s .tracks ∷ s .slots ∷ s .revisit ∷ s .split ∷ [])} (c .before .before .before .before .before .before .put-bytes .ensures) (c .before .before .put-five .ensures)
+    let f = c .before .before in
+    let b = f .before .before .before .before in
+    let s = b .before .before .before .before .args in
+    put-text {b = rowText (s .trains ∷ s .tracks ∷ s .slots ∷ s .revisit ∷ s .split ∷ [])} (b .put-bytes .ensures) (f .put-five .ensures)
 
 pub put-head-spec : {M : Type 1} → statement M
 put-head-spec =

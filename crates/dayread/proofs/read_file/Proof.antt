@@ -10,22 +10,33 @@ use mir.Val.{Fits}
 use Rattle.dayfile.specs.Reading.{headSection, trainSection}
 use Rattle.day_rows.specs.Steps.{RowTo}
 use Rattle.day_rows.proofs.Tags.{row-refusal}
-use Rattle.day_sections.specs.Sections.{TrainsRead, trains-into, moves-into}
+use Rattle.day_rows.specs.declared.Step.{Step}
+use Rattle.day_sections.specs.Sections.{TrainsRead, TrainsTo, trains-into, moves-into}
 use Rattle.dayread.specs.Whole.{HeadLimits, head-limits, head-stops, trains-stop, moves-stop, day-read}
 use borrow.Author.Needs.{needs}
 use Rattle.dayread.proofs.read_file.Statement.{statement}
 use Rattle.dayread.proofs.read_file.Tie as tie
 
--- the places passed, each from one after it: the start; the first section read; the trains called; the trains read
-abbrev start : tie.After-known-told → tie.Start
-start c = c .before .before .before .before .before .before .before .before .before
+-- The places passed, each from one after it.
+-- the start, from the call for the first section and from past its match
+abbrev entry : tie.After-read-head → tie.Start
+entry c = c .before .before .before .before .before .before
 
+abbrev start : tie.After-known-told → tie.Start
+start c = entry (c .before .before .before)
+
+-- past that match, from the call for the trains
 abbrev past-head : tie.After-read-trains → tie.After-known-told
 past-head c = c .before .before .before .before
 
-abbrev called : tie.After-known-told2 → tie.After-read-trains
-called c = c .before .before .before .before .before .before .before .before .before
+-- the call for the trains, from where the columns are given back and from past its match
+abbrev given-back : tie.After-slice-known7 → tie.After-read-trains
+given-back c = c .before .before .before .before .before .before
 
+abbrev called : tie.After-known-told2 → tie.After-read-trains
+called c = given-back (c .before .before .before)
+
+-- past that match, from the call for the moves
 abbrev past-trains : tie.After-read-moves → tie.After-known-told2
 past-trains c = c .before .before .before
 
@@ -50,19 +61,28 @@ long c e = subst (λ k. c .before .head .given .0 .0 ≤ k) (sym e) (limits c .t
 zeros : (n : ℕ) (x : List ℕ) → x ≡ replicate n 0 → length x ≡ n
 zeros n x e = ap length e ∙ length-replicate n 0
 
+-- what the call for the trains says, once its answer is known
+told : (c : tie.After-read-trains) {x : Step} → c .read-trains .result ≡ x
+    → let h = past-head c in
+    let a = start h .args in
+    let r = h .before .head .given .0 in
+    let columns = c .read-trains .last in
+    TrainsTo (a .l) (r .1 .1 .0) (r .0) (a .text .now) (trainSection (a .l) (r .1 .1 .0) (r .0) (drop (r .1 .1 .1 .1 .1 .0) (a .text .now))) (a .numbers .now) (a .first .now) (a .last .now) (columns .1 .1 .1 .1 .1 .0) (columns .1 .1 .1 .1 .1 .1 .0) (columns .1 .1 .1 .1 .1 .1 .1 .0) x
+told c e = rw e at (c .read-trains .ensures)
+
 -- past the second match the trains were read
 trains : (c : tie.After-known-told2)
-    → let h = past-head (called c) in
+    → let q = called c in
+    let h = past-head q in
     let a = start h .args in
     let r = h .before .head .given .0 in
     let z : List ℕ = replicate (a .l .trains) 0 in
-    let columns = called c .read-trains .last in
+    let columns = q .read-trains .last in
     TrainsRead (a .l) (r .1 .1 .0) (r .0) (a .text .now) (trainSection (a .l) (r .1 .1 .0) (r .0) (drop (r .1 .1 .1 .1 .1 .0) (a .text .now))) z z z (columns .1 .1 .1 .1 .1 .0) (columns .1 .1 .1 .1 .1 .1 .0) (columns .1 .1 .1 .1 .1 .1 .1 .0) (c .before .trains .given .0 .0)
 trains c =
-    -- the place is written out, since `rw` looks into its name
-    let q = c .before .before .before .before .before .before .before .before .before in
+    let q = called c in
     let p = start (past-head q) .pre .1 in
-    trains-into _ (rw (c .before .trains .given .1) at (q .read-trains .ensures)) (p .0) (p .1 .0) (p .1 .1 .0)
+    trains-into _ (told q (c .before .trains .given .1)) (p .0) (p .1 .0) (p .1 .1 .0)
 
 read-head-requires : tie.Need-read-head-requires
 read-head-requires c κs = search needs
@@ -76,7 +96,7 @@ refusal-of-requires c κs = search needs
 returns : tie.Need-returns
 returns c =
     let read = c .before .before in
-    let a = read .before .before .before .before .before .before .args in
+    let a = entry read .args in
     let x = c .refusal-of .result in
     head-stops (a .l) (a .text .now) x (row-refusal 4 (a .text .now) (headSection (a .l) (a .text .now)) _ x (read .read-head .result) (c .before .match .keys2) (read .read-head .ensures) (c .refusal-of .ensures))
 
@@ -108,11 +128,11 @@ same-length-3 c = search needs
 
 returns-2 : tie.Need-returns-2
 returns-2 c =
-    let q = c .before .before .before .before .before .before .before .before .before in
+    let q = given-back (c .before .before .before) in
     let h = past-head q in
     let a = start h .args in
     let x = c .before .trains2 .given in
-    trains-stop (a .l) (a .text .now) (head h) (x .0 .0) (rw (x .1) at (q .read-trains .ensures))
+    trains-stop (a .l) (a .text .now) (head h) (x .0 .0) (told q (x .1))
 
 add-read-moves : tie.Need-add-read-moves
 add-read-moves c = search needs

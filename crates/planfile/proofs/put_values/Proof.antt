@@ -1,7 +1,8 @@
 -- `planfile::put_values` meets its contract. The names line, and the row after it.
 -- Assumes nothing.
-use mathlib.Core.Path.{_≡_, ap}
+use mathlib.Core.Path.{_≡_, ap, ap₂}
 use mathlib.Core.List.{[], _∷_}
+use Prim.Native.Nat.{ℕ}
 use native.Mathlib.Omega.{arith}
 use lib.ListN.{length, length-append}
 use Rattle.decimal.specs.PlaceLaws.{put-text}
@@ -12,13 +13,20 @@ use borrow.Author.Needs.{needs}
 use Rattle.planfile.proofs.put_values.Statement.{statement}
 use Rattle.planfile.proofs.put_values.Tie as tie
 
+-- where the function began, from the names line's call; the place after that call, from the counts opened
+abbrev start : tie.After-put-bytes-arg2 → tie.Start
+start c = c .before .before .before
+
+abbrev past-names : tie.After-count2 → tie.After-put-bytes
+past-names c = c .before .before .before .before .before
+
 slice-aggregate-put-bytes : tie.Need-slice-aggregate-put-bytes
 slice-aggregate-put-bytes c = search needs
 
 put-bytes-requires : tie.Need-put-bytes-requires
 unfolding valueNames
 put-bytes-requires c κs =
-    let s = c .before .before .before .args in
+    let s = start c .args in
     omega (arith, length-append valueNames (rowText (valueRow (outcomeOf (s .value)))))
 
 count-requires : tie.Need-count-requires
@@ -29,15 +37,17 @@ count-requires-2 c κs = search needs
 
 -- the row that is written: the two counts, opened, and the cost
 opened : (c : tie.After-count2)
-    → rowText (c .before .count .result ∷ c .count2 .result ∷ c .before .before .before .before .before .before .before .before .before .args .value .cost ∷ [])
-    ≡ rowText (valueRow (outcomeOf (c .before .before .before .before .before .before .before .before .before .args .value)))
-opened c = rw (c .before .count .ensures, c .count2 .ensures)
+    → let v = start (past-names c .before) .args .value in
+    rowText (c .before .count .result ∷ c .count2 .result ∷ v .cost ∷ []) ≡ rowText (valueRow (outcomeOf v))
+opened c =
+    let cost = start (past-names c .before) .args .value .cost in
+    ap₂ (λ (revisits splits : ℕ). rowText (revisits ∷ splits ∷ cost ∷ [])) (c .before .count .ensures) (c .count2 .ensures)
 
 put-three-requires : tie.Need-put-three-requires
 unfolding valueNames
 put-three-requires c κs =
-    let b = c .before .before .before .before .before in
-    let s = b .before .before .before .before .args in
+    let b = past-names c in
+    let s = start (b .before) .args in
     omega (arith, length-append valueNames (rowText (valueRow (outcomeOf (s .value)))), b .put-bytes .ensures .next, ap length (opened c))
 
 same-length : tie.Need-same-length
@@ -47,8 +57,8 @@ returns : tie.Need-returns
 unfolding valueNames
 returns c =
     let r = c .before .before in
-    let b = r .before .before .before .before .before .before in
-    let s = b .before .before .before .before .args in
+    let b = past-names (r .before) in
+    let s = start (b .before) .args in
     put-text {b = rowText (valueRow (outcomeOf (s .value)))} (b .put-bytes .ensures) (rw (← opened (r .before)) (r .put-three .ensures))
 
 pub put-values-spec : {M : Type 1} → statement M

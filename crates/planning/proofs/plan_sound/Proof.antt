@@ -11,7 +11,7 @@ use Rattle.day.specs.Answer.{gives, refuses}
 use Rattle.day.specs.Sound.{dayLimits, yard}
 use Rattle.day.specs.SoundLaws.{Sound, sound-is}
 use Rattle.feasibility.specs.Search.{Finds, finds-day}
-use Rattle.feasibility.specs.Verdict.{none-row}
+use Rattle.feasibility.specs.RowOrNone.{none-row}
 use Rattle.planning.specs.Laws.{says-nine, says-plan}
 use borrow.Author.Needs.{needs}
 use Rattle.planning.proofs.plan_sound.Statement.{statement}

@@ -18,6 +18,10 @@ Inv-loop boxes width first last row n revisit split t chosen₀ least₀ k₀ ch
 abbrev μ-loop : tie.MeasureT-loop
 μ-loop boxes width first last row n revisit split t chosen₀ least₀ k₀ chosen least k = n - k
 
+-- where the function began, from the loop
+abbrev start : tie.At-loop Inv-loop μ-loop → tie.Start Inv-loop μ-loop
+start c = c .before .before .before .before .before
+
 loop-holds : tie.Need-loop-holds Inv-loop μ-loop
 loop-holds c = (search needs, selecting-none _ _ _ _ _ _ _ _)
 
@@ -28,7 +32,7 @@ is-in-time-requires : tie.Need-is-in-time-requires Inv-loop μ-loop
 is-in-time-requires c κs = search needs
 
 priority-of-requires : tie.Need-priority-of-requires Inv-loop μ-loop
-priority-of-requires c κs = (c .before .before .before .before .before .before .before .before .before .pre .0, search needs)
+priority-of-requires c κs = (start (c .before .before .before .before) .pre .0, search needs)
 
 add-k : tie.Need-add-k Inv-loop μ-loop
 add-k c = search needs
@@ -41,7 +45,7 @@ unfolding waits
 loop-again c =
     let i = c .before in
     let l = i .before .before .before in
-    let e = ap (λ x. waits (l .before .before .before .before .before .args .row .now) (l .loop .k) && x) (sym (i .is-in-time .ensures)) in (
+    let e = ap (λ x. waits (start l .args .row .now) (l .loop .k) && x) (sym (i .is-in-time .ensures)) in (
       search needs,
       ⊎-elim
           (λ w. rw (w .3, w .4) (selecting-take _ _ _ _ _ _ _ _ (l .loop .k) (l .loop .inv .1) (e ∙ w .0 .taken) (w .1 .ensures) (w .2 .taken)))
@@ -54,7 +58,7 @@ loop-again c =
 returns : tie.Need-returns Inv-loop μ-loop
 returns c =
     let l = c .before in
-    let s = l .before .before .before .before .before .args in
+    let s = start l .args in
     l .loop .inv .1 .is ∙ at-end (λ k. select (s .n) (s .revisit) (s .split) (cell (s .width) (s .boxes .now)) (s .first .now) (s .last .now) (s .row .now) (s .t) k) _ _ (l .loop .inv .0) (c .loop-test .left)
 
 pub select-train-spec : {M : Type 1} → statement M

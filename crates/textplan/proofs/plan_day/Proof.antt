@@ -11,9 +11,12 @@ use borrow.Author.Needs.{needs}
 use Rattle.textplan.proofs.plan_day.Statement.{statement}
 use Rattle.textplan.proofs.plan_day.Tie as tie
 
--- where the function began
+-- where the function began, from the place after planning; that place, from the one before the two cases of its answer
 abbrev start : tie.After-plan → tie.Start
 start p = p .before .before .before .before .before .before .before .before
+
+abbrev past-plan : tie.After-slice-known7 → tie.After-plan
+past-plan c = c .before .before .before .before .before .before
 
 -- a case of planning's answer, with what planning has left
 left : (p : tie.After-plan) {a : Answer Outcome} → answer (p .plan .result) ≡ a
@@ -51,8 +54,9 @@ same-length-4 c = search needs
 
 returns : tie.Need-returns
 returns c =
-    let p = c .before .before .before .before .before .before .before .before .before .before .before .before .before in
-    record { said = _; left = left p (ap answer (c .before .before .before .before .before .value .given .1)); told = told-values refl (c .before .before .store-value .ensures); written = refl }
+    let v = c .before .before .before .before .before in
+    let p = past-plan (v .before .before) in
+    record { said = _; left = left p (ap answer (v .value .given .1)); told = told-values refl (c .before .before .store-value .ensures); written = refl }
 
 same-length-5 : tie.Need-same-length-5
 same-length-5 c = search needs
@@ -68,8 +72,9 @@ same-length-8 c = search needs
 
 returns-2 : tie.Need-returns-2
 returns-2 c =
-    let p = c .before .before .before .before .before .before .before .before .before .before .before .before .before in
-    record { said = _; left = left p (ap answer (c .before .before .before .before .before .refusal .given .1)); told = c .before .before .tell .ensures; written = refl }
+    let x = c .before .before .before .before .before in
+    let p = past-plan (x .before .before) in
+    record { said = _; left = left p (ap answer (x .refusal .given .1)); told = c .before .before .tell .ensures; written = refl }
 
 pub plan-day-spec : {M : Type 1} → statement M
 plan-day-spec =

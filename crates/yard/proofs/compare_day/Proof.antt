@@ -1,12 +1,18 @@
 -- `yard::compare_day` meets its contract: the comparison is told.
 -- Assumes nothing.
 use mathlib.Core.Path.{sym, ap, _∙_, subst}
-use denote.Ref.{now}
 use Rattle.baselines.specs.Baselines.{comparisonOrZero}
 use Rattle.yard.specs.Laws.{ToldSaving}
 use borrow.Author.Needs.{needs}
 use Rattle.yard.proofs.compare_day.Statement.{statement}
 use Rattle.yard.proofs.compare_day.Tie as tie
+
+-- where the function began, from the place after the comparison; that place, from the call that tells it
+abbrev start : tie.After-measure → tie.Start
+start c = c .before .before .before .before
+
+abbrev compared : tie.After-tell-baseline-arg2 → tie.After-measure
+compared c = c .before .before .before .before
 
 slice-aggregate-measure : tie.Need-slice-aggregate-measure
 slice-aggregate-measure c = search needs
@@ -18,14 +24,20 @@ measure-requires : tie.Need-measure-requires
 measure-requires c κs = search needs
 
 tell-baseline-requires : tie.Need-tell-baseline-requires
-tell-baseline-requires c κs = let e = c .before .before .before .before .measure .ensures in (c .before .before .before .before .before .before .before .before .pre, e .1 .0 ∙ ap comparisonOrZero (sym (e .0)))
+tell-baseline-requires c κs =
+    let m = compared c in
+    let e = m .measure .ensures in
+    (start m .pre, e .1 .0 ∙ ap comparisonOrZero (sym (e .0)))
 
 same-length : tie.Need-same-length
 same-length c = search needs
 
 returns : tie.Need-returns
-returns c = let t = c .before .before .tell-baseline in
-    subst (λ a. ToldSaving (now (c .before .before .before .before .before .before .before .before .before .before .before .args .numbers)) a (t .result) (t .last .1 .0) (t .last .1 .1 .0)) (c .before .before .before .before .before .before .before .measure .ensures .0) (t .ensures)
+returns c =
+    let t = c .before .before in
+    let m = compared (t .before) in
+    let l = t .tell-baseline .last .1 in
+    subst (λ a. ToldSaving (start m .args .numbers .now) a (t .tell-baseline .result) (l .0) (l .1 .0)) (m .measure .ensures .0) (t .tell-baseline .ensures)
 
 pub compare-day-spec : {M : Type 1} → statement M
 compare-day-spec =

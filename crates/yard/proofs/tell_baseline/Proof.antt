@@ -12,6 +12,10 @@ use borrow.Author.Needs.{needs}
 use Rattle.yard.proofs.tell_baseline.Statement.{statement}
 use Rattle.yard.proofs.tell_baseline.Tie as tie
 
+-- where the function began, from the place before the two cases
+abbrev start : tie.After-struct-told → tie.Start
+start c = c .before .before
+
 enum-told : tie.Need-enum-told
 enum-told c = search needs
 
@@ -28,20 +32,24 @@ same-length : tie.Need-same-length
 same-length c = search needs
 
 returns : tie.Need-returns
-returns c = let s = c .before .before .before .before .before .before .before .before in
+returns c =
+    let t = c .before .before .before .before in
+    let s = start (t .before .before) in
     let b = s .args .baseline in
     let fits : SFits w64 (b .saving) = search needs in
-    let e = ap (λ v. outcomes (answer v (comparisonOf b))) (c .before .before .before .before .enum-told .given .1) in
+    let e = ap (λ v. outcomes (answer v (comparisonOf b))) (t .enum-told .given .1) in
     told-baseline b (s .pre .1) (toZ-ofZ fits) (told-values (sym e) (c .before .before .store-value .ensures))
 
 same-length-2 : tie.Need-same-length-2
 same-length-2 c = search needs
 
 returns-2 : tie.Need-returns-2
-returns-2 c = let s = c .before .before .before .before .before .before .before .before .before in
+returns-2 c =
+    let x = c .before .before .before .before .before in
+    let s = start (x .before .before) in
     let b = s .args .baseline in
     let fits : SFits w64 (b .saving) = search needs in
-    let e = ap (λ v. outcomes (answer v (comparisonOf b))) (c .before .before .before .before .before .verdict .given .1) in
+    let e = ap (λ v. outcomes (answer v (comparisonOf b))) (x .verdict .given .1) in
     told-baseline b (s .pre .1) (toZ-ofZ fits) (told-same (sym e) (c .before .before .tell .ensures))
 
 pub tell-baseline-spec : {M : Type 1} → statement M

@@ -15,8 +15,8 @@ read-day-requires c κs = search needs
 enum-told : tie.Need-enum-told
 enum-told c = search needs
 
-enum-known-outcome : tie.Need-enum-known-outcome
-enum-known-outcome c = search needs
+enum-known-verdict : tie.Need-enum-known-verdict
+enum-known-verdict c = search needs
 
 in-numbers-requires : tie.Need-in-numbers-requires
 in-numbers-requires c κs = search needs
@@ -24,16 +24,16 @@ in-numbers-requires c κs = search needs
 returns : tie.Need-returns
 returns c =
     let d = c .before .before in
-    let e = sym (ap (λ o. answer o (yard (d .read-day .result .day))) (c .enum-told .given .1)) ∙ d .read-day .ensures .0 in
+    let e = sym (ap (λ v. answer v (yard (d .read-day .result .day))) (c .enum-told .given .1)) ∙ d .read-day .ensures .0 in
     (ap code e, ap line e)
 
 returns-2 : tie.Need-returns-2
 returns-2 c =
     let d = c .before .before .before .before in
-    let e = sym (ap (λ o. answer o (yard (d .read-day .result .day))) (c .before .before .outcome .given .1)) ∙ d .read-day .ensures .0 in
+    let e = sym (ap (λ v. answer v (yard (d .read-day .result .day))) (c .before .before .verdict .given .1)) ∙ d .read-day .ensures .0 in
     (c .in-numbers .ensures .number ∙ ap code e, c .in-numbers .ensures .first ∙ ap line e)
 
 pub yard-check-spec : {M : Type 1} → statement M
 yard-check-spec =
     tie.close
-    (tie.spec read-day-requires enum-told enum-known-outcome in-numbers-requires returns returns-2)
+    (tie.spec read-day-requires enum-told enum-known-verdict in-numbers-requires returns returns-2)
