@@ -22,7 +22,7 @@ use Rattle.day.specs.AnswerLaws.{gives-same, checked-holds, checked-gives, Only
 use Rattle.day.specs.Sound.{dayLimits, sound}
 use Rattle.day.specs.SoundLaws.{sound-is}
 use Rattle.day.specs.declared.Limits.{Limits}
-use Rattle.planning.specs.Planning.{costWords, choiceWords, suffices, bestAnswer, planChecks, planned, begins, placed, rowAfter}
+use Rattle.planning.specs.Planning.{costWords, choiceWords, costArea, choiceArea, suffices, bestAnswer, planChecks, planned, begins, placed, rowAfter}
 
 -- ---- where both checks hold
 
@@ -38,13 +38,13 @@ module _ (l : Limits) (y : Yard) (costs choices : ℕ) where
   row-begun row begun = ap (λ b. cond b (placed (bestOf y) row) row) (is-true (begins l y costs choices (length row)) begun)
 
 -- the areas that callers without areas of their own lend
-pub areas-suffice : (y : Yard) (bytes : ℕ) → T (sound dayLimits y) → y .trains ≤ bytes → T (begins dayLimits y 4096 32768 bytes)
+pub areas-suffice : (y : Yard) (bytes : ℕ) → T (sound dayLimits y) → y .trains ≤ bytes → T (begins dayLimits y costArea choiceArea bytes)
 areas-suffice y bytes s r =
     let is = sound-is dayLimits y s in
-    let sets : 2 ^ y .trains ≤ 4096 = pow-mono (is .trains .1) in
-    both (sound dayLimits y) (suffices y 4096 32768 bytes) s
-    (both (leb (costWords y) 4096 && leb (choiceWords y) 32768) (leb (y .trains) bytes)
-    (both (leb (costWords y) 4096) (leb (choiceWords y) 32768) (le→leb _ _ sets) (le→leb _ _ (mul-le-mul (is .slots .1) sets)))
+    let sets : 2 ^ y .trains ≤ costArea = pow-mono (is .trains .1) in
+    both (sound dayLimits y) (suffices y costArea choiceArea bytes) s
+    (both (leb (costWords y) costArea && leb (choiceWords y) choiceArea) (leb (y .trains) bytes)
+    (both (leb (costWords y) costArea) (leb (choiceWords y) choiceArea) (le→leb _ _ sets) (le→leb _ _ (mul-le-mul (is .slots .1) sets)))
     (le→leb _ _ r))
 
 -- ---- a plan

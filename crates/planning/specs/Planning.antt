@@ -32,6 +32,13 @@ costWords y = 2 ^ y .trains
 abbrev pub choiceWords : Yard → ℕ
 choiceWords y = y .slots * 2 ^ y .trains
 
+-- words that suffice for every day: callers that are lent no areas have their own of this size
+abbrev pub costArea : ℕ
+costArea = 4096
+
+abbrev pub choiceArea : ℕ
+choiceArea = 32768
+
 -- the areas and the row are long enough
 abbrev pub suffices : Yard → ℕ → ℕ → ℕ → Bool
 suffices y costs choices bytes = leb (costWords y) costs && leb (choiceWords y) choices && leb (y .trains) bytes

@@ -1,3 +1,2 @@
 pub mod Interface
-pub mod Laws
 pub mod Returns

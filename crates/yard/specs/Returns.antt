@@ -10,7 +10,7 @@
 --   value-exactly     yard_value gives numbers exactly where the row is allowed, and they are the model's;
 --   compare-is        the comparing functions answer what comparing the day does (`saves` of baselines says what that means);
 --   plan-exactly      yard_plan, lent a row of 12 bytes, gives a plan exactly where an allowed row exists: `plans-best` and `plans-nine` of
---                     textplan say which, and what stands in the row.
+--                     text_plan say which, and what stands in the row.
 -- Assumes nothing.
 use mathlib.Core.Path.{_≡_, refl, sym, ap, subst}
 use mathlib.Core.List.{List, [], _∷_}
@@ -32,15 +32,16 @@ use Rattle.dayfile.specs.RoundTrip.{read-sound}
 use Rattle.dayfile.specs.Refused.{Lined, read-lined}
 use Rattle.valuing.specs.Valuing.{valued}
 use Rattle.valuing.specs.Laws.{valued-only, valued-allowed, allowed-valued}
-use Rattle.planning.specs.Planning.{planned}
+use Rattle.planning.specs.Planning.{costArea, choiceArea, planned}
 use Rattle.planning.specs.Answers.{areas-suffice, planned-only, from-best}
 use Rattle.baselines.specs.Baselines.{Comparison, compared}
 use Rattle.baselines.specs.Savings.{compared-only}
 use Rattle.telling.specs.Telling.{dayFor, forDay}
 use Rattle.telling.specs.Laws.{no-room, with-room}
-use Rattle.textplan.specs.TextPlan.{planFor}
-use Rattle.textplan.specs.Means.{plans-best}
-use Rattle.yard.specs.Interface.{costArea, choiceArea, line, valueText, compareText}
+use Rattle.text_plan.specs.TextPlan.{planFor}
+use Rattle.text_plan.specs.Means.{plans-best}
+use Rattle.text_value.specs.TextValue.{line, valueText}
+use Rattle.text_savings.specs.TextSavings.{compareText}
 
 -- 1 to 7, or a number of the call's own
 abbrev Or : (ℕ → Type 0) → ℕ → List ℕ → Type 0

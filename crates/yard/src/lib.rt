@@ -4,27 +4,21 @@
 // Proved: for every text, row and lent memory each function returns and leaves what specs/Interface.antt says; too little room gives
 // refusal 10. Assumes nothing; of a caller only that a pointer has the length that is given beside it.
 ghost use mathlib.Core.Path.{_≡_};
-ghost use Prim.Native.Nat.{_≤_};
 ghost use lib.ListN.{length};
 ghost use Rattle.day.specs.Answer.{code};
-ghost use Rattle.day.specs.Sound.{dayLimits, yard};
-ghost use Rattle.valuing.specs.Valuing.{valued};
+ghost use Rattle.day.specs.Sound.{dayLimits};
 ghost use Rattle.dayfile.specs.Reading.{readDay};
 ghost use Rattle.answering.specs.Answering.{answerWrites, answerLeaves};
 ghost use Rattle.procedures.specs.Procedures.{firstCome, myopic};
-ghost use Rattle.baselines.specs.Baselines.{answer, comparisonOf, comparisonOrZero, rowBy, compared};
-ghost use Rattle.planning.specs.Planning.{costWords, choiceWords, Stays};
+ghost use Rattle.baselines.specs.Baselines.{comparisonOrZero};
+ghost use Rattle.planning.specs.Planning.{costWords, choiceWords, costArea, choiceArea, Stays};
 ghost use Rattle.telling.specs.Telling.{numbersAfter};
-ghost use Rattle.telling.specs.Laws.{Told};
-ghost use Rattle.textplan.specs.TextPlan.{planFor, rowFor, openFor, slotsFor};
-ghost use Rattle.yard.specs.Interface.{version, costArea, choiceArea, count, line, valueText, compareText, outcomes};
-ghost use Rattle.yard.specs.Laws.{ToldSaving};
-use baselines::Baseline;
+ghost use Rattle.text_plan.specs.TextPlan.{planFor, rowFor, openFor, slotsFor};
+ghost use Rattle.text_value.specs.TextValue.{line, valueText};
+ghost use Rattle.text_savings.specs.TextSavings.{compareText, outcomes};
+ghost use Rattle.yard.specs.Interface.{version, count};
 use baselines::Procedure;
-use day::Day;
-use day::Verdict;
 use output::Wrote;
-use valuing::Valued;
 
 // The version of include/yard.h that this library meets.
 #[no_mangle]
@@ -71,7 +65,7 @@ pub extern "C" fn yard_plan_in_workspace(
     ensures { λ _. ⌜ Stays (openFor costWords dayLimits (now (text .entry)) (length (now (cost .entry))) (length (now (choice .entry))) (length (now (row .entry))) (length (now (numbers .entry)))) (now (cost .entry)) (now (cost .exit)) ⌝ }
     ensures { λ _. ⌜ Stays (openFor choiceWords dayLimits (now (text .entry)) (length (now (cost .entry))) (length (now (choice .entry))) (length (now (row .entry))) (length (now (numbers .entry)))) (now (choice .entry)) (now (choice .exit)) ⌝ }
 {
-    textplan::plan_text(text, cost, choice, row, numbers, trains)
+    text_plan::plan_text(text, cost, choice, row, numbers, trains)
 }
 
 // The same in areas of its own, which suffice for every day.
@@ -89,7 +83,7 @@ pub extern "C" fn yard_plan(
 {
     let mut cost = [0u64; 4096];
     let mut choice = [0u16; 32768];
-    textplan::plan_text(text, &mut cost, &mut choice, row, numbers, trains)
+    text_plan::plan_text(text, &mut cost, &mut choice, row, numbers, trains)
 }
 
 // Whether a text is a day file: 0, or the number of the refusal and its line.
@@ -98,33 +92,7 @@ pub extern "C" fn yard_check(text: &[u8], at: &mut u64) -> u64
     ensures { λ r. ⌜ r ≡ code (readDay dayLimits (now (text .entry))) ⌝ }
     ensures { λ _. ⌜ now (at .exit) ≡ line (readDay dayLimits (now (text .entry))) ⌝ }
 {
-    let reading = dayread::read_day(text);
-    let verdict = reading.verdict;
-    match verdict {
-        Verdict::Accepted => {
-            *at = 0;
-            0
-        }
-        Verdict::Refused(refusal) => {
-            let told = refusals::in_numbers(refusal);
-            *at = told.first;
-            told.number
-        }
-    }
-}
-
-// Values a row of a day that was read.
-fn value_day(day: Day, row: &[u8], numbers: &mut [u64]) -> u64
-    requires { ⌜ 3 ≤ length (now numbers) ⌝ }
-    ensures { λ r. ⌜ Told (now (numbers .entry)) (valued dayLimits (yard day) (now (row .entry))) r (now (numbers .exit)) ⌝ }
-{
-    match valuing::value_assignment(day, row) {
-        Valued::Values(value) => {
-            telling::store_value(numbers, value);
-            0
-        }
-        Valued::Refused(refusal) => telling::tell(numbers, refusal),
-    }
+    text_value::check_text(text, at)
 }
 
 // Values a row of slots on the day of a text: 0 with revisits, split moves and cost in the first three numbers; or the number of the
@@ -134,64 +102,10 @@ pub extern "C" fn yard_value(text: &[u8], row: &[u8], numbers: &mut [u64]) -> u6
     ensures { λ r. ⌜ r ≡ code (valueText dayLimits (now (text .entry)) (now (row .entry)) (length (now (numbers .entry)))) ⌝ }
     ensures { λ _. ⌜ now (numbers .exit) ≡ numbersAfter (valueText dayLimits (now (text .entry)) (now (row .entry)) (length (now (numbers .entry)))) (now (numbers .entry)) ⌝ }
 {
-    if !telling::is_room(numbers.len()) {
-        return 10;
-    }
-    let reading = dayread::read_day(text);
-    let verdict = reading.verdict;
-    match verdict {
-        Verdict::Accepted => value_day(reading.day, row, numbers),
-        Verdict::Refused(refusal) => telling::tell(numbers, refusal),
-    }
+    text_value::value_text(text, row, numbers)
 }
 
 // ---- what planning saves
-
-// Stores the numbers of a comparison, or what its refusal carries, and the saving.
-fn tell_baseline(baseline: Baseline, numbers: &mut [u64], saving: &mut i64) -> u64
-    requires { ⌜ 3 ≤ length (now numbers) ⌝ }
-    requires { ⌜ comparisonOf baseline ≡ comparisonOrZero (answer (baseline .verdict) (comparisonOf baseline)) ⌝ }
-    ensures { λ r. ⌜ ToldSaving (now (numbers .entry)) (answer (baseline .verdict) (comparisonOf baseline)) r (now (numbers .exit)) (now (saving .exit)) ⌝ }
-{
-    let saved = baseline.saving;
-    *saving = saved;
-    let verdict = baseline.verdict;
-    match verdict {
-        Verdict::Accepted => {
-            telling::store_value(numbers, baseline.value);
-            0
-        }
-        Verdict::Refused(refusal) => telling::tell(numbers, refusal),
-    }
-}
-
-// Compares a day that was read. The areas are local; they suffice for every sound day.
-fn compare_day(procedure: Procedure, day: Day, numbers: &mut [u64], saving: &mut i64) -> u64
-    requires { ⌜ 3 ≤ length (now numbers) ⌝ }
-    ensures { λ r. ⌜ ToldSaving (now (numbers .entry)) (compared dayLimits (yard day) (rowBy procedure (yard day)) costArea choiceArea) r (now (numbers .exit)) (now (saving .exit)) ⌝ }
-{
-    let mut cost = [0u64; 4096];
-    let mut choice = [0u16; 32768];
-    let baseline = baselines::measure(procedure, day, &mut cost, &mut choice);
-    tell_baseline(baseline, numbers, saving)
-}
-
-fn compare_text(procedure: Procedure, text: &[u8], numbers: &mut [u64], saving: &mut i64) -> u64
-    ensures { λ r. ⌜ r ≡ code (compareText (rowBy procedure) dayLimits (now (text .entry)) (length (now (numbers .entry)))) ⌝ }
-    ensures { λ _. ⌜ now (numbers .exit) ≡ numbersAfter (outcomes (compareText (rowBy procedure) dayLimits (now (text .entry)) (length (now (numbers .entry))))) (now (numbers .entry)) ⌝ }
-    ensures { λ _. ⌜ now (saving .exit) ≡ comparisonOrZero (compareText (rowBy procedure) dayLimits (now (text .entry)) (length (now (numbers .entry)))) .saving ⌝ }
-{
-    *saving = 0;
-    if !telling::is_room(numbers.len()) {
-        return 10;
-    }
-    let reading = dayread::read_day(text);
-    let verdict = reading.verdict;
-    match verdict {
-        Verdict::Accepted => compare_day(procedure, reading.day, numbers, saving),
-        Verdict::Refused(refusal) => telling::tell(numbers, refusal),
-    }
-}
 
 // First come, first served on the day of a text, against the best plan: 0 with its revisits, split moves and cost in the first three
 // numbers and the saving, its cost less the planned cost; or the number of the refusal with what it carries there, and a saving of 0. 10
@@ -206,7 +120,7 @@ pub extern "C" fn yard_first_come_first_served(
     ensures { λ _. ⌜ now (numbers .exit) ≡ numbersAfter (outcomes (compareText firstCome dayLimits (now (text .entry)) (length (now (numbers .entry))))) (now (numbers .entry)) ⌝ }
     ensures { λ _. ⌜ now (saving .exit) ≡ comparisonOrZero (compareText firstCome dayLimits (now (text .entry)) (length (now (numbers .entry)))) .saving ⌝ }
 {
-    compare_text(Procedure::FirstCome, text, numbers, saving)
+    text_savings::compare_text(Procedure::FirstCome, text, numbers, saving)
 }
 
 // The same of the myopic start procedure.
@@ -216,5 +130,5 @@ pub extern "C" fn yard_myopic(text: &[u8], numbers: &mut [u64], saving: &mut i64
     ensures { λ _. ⌜ now (numbers .exit) ≡ numbersAfter (outcomes (compareText myopic dayLimits (now (text .entry)) (length (now (numbers .entry))))) (now (numbers .entry)) ⌝ }
     ensures { λ _. ⌜ now (saving .exit) ≡ comparisonOrZero (compareText myopic dayLimits (now (text .entry)) (length (now (numbers .entry)))) .saving ⌝ }
 {
-    compare_text(Procedure::Myopic, text, numbers, saving)
+    text_savings::compare_text(Procedure::Myopic, text, numbers, saving)
 }

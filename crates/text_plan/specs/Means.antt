@@ -1,0 +1,147 @@
+-- What planning the day of a text means, in the model's words, from the contract's definitions alone. With room for three numbers, areas and
+-- a row as long as 01 says, and a text that reads to the day y:
+--   plans-best     where an allowed row exists the answer is the best one's numbers, its slots stand in the row, and their count is told;
+--   plans-nine     where none exists it is 9 with the first overbooked interval, and the row stays.
+-- For every text and all lent memory:
+--   text-memory    after 1 to 7 and 10 nothing lent has changed; after 9 the row has not; words beyond 2^n and T × 2^n never do; no slots are
+--                  told with any refusal.
+-- Assumes nothing.
+use mathlib.Core.Path.{_≡_, refl, sym, ap, _∙_, subst}
+use mathlib.Core.Bool.{true}
+use mathlib.Core.List.{List, [], _∷_, _++_}
+use mathlib.Core.Logic.{_⊎_, inl, inr}
+use mathlib.Core.Option.{Option, none, some}
+use Prim.Native.Nat.{ℕ, _*_, _^_, _≤_}
+use native.Mathlib.Omega.{arith}
+use lib.Dec.{T, leb}
+use lib.ListN.{length, drop}
+use borrow.Author.Tests.{le-leb}
+use Rattle.model.specs.Model.{Yard, Outcome, outcome, boundInside, Best, SomeRow, NoRow, FirstOverbooked}
+use Rattle.model.specs.Rows.{allowed-is}
+use Rattle.model.specs.BestOf.{bestOf, is-best, is-none, none-is}
+use Rattle.model.specs.Overbooked.{Interval, firstOverbooked, SaysFirst, first-says}
+use Rattle.day.specs.Answer.{Answer, gives, refuses, must, checked}
+use Rattle.day.specs.AnswerLaws.{gives-same, checked-gives}
+use Rattle.day.specs.Sound.{sound}
+use Rattle.day.specs.SoundLaws.{sound-is}
+use Rattle.day.specs.declared.Limits.{Limits}
+use Rattle.dayfile.specs.Reading.{readDay}
+use Rattle.dayfile.specs.RoundTrip.{read-sound}
+use Rattle.feasibility.specs.RowOrNone.{no-row-over}
+use Rattle.planning.specs.Planning.{costWords, choiceWords, bestAnswer, carriedBy, planned, begins, placed, rowAfter, openWords, Stays}
+use Rattle.planning.specs.Answers.{planned-begun, row-begun, refuses-only}
+use Rattle.planning.specs.Demand.{memory-suffices, memory-after}
+use Rattle.telling.specs.Telling.{dayFor}
+use Rattle.telling.specs.Laws.{with-room}
+use Rattle.text_plan.specs.TextPlan.{planFor, rowFor, openFor, slotsIn, slotsFor}
+
+module _ (l : Limits) (text : List ℕ) (y : Yard) (reads : readDay l text ≡ gives y) (costs choices size : ℕ) (row : List ℕ)
+    (room : 3 ≤ size) (costsNamed : 2 ^ y .trains ≤ costs) (choicesNamed : y .slots * 2 ^ y .trains ≤ choices) (rowNamed : y .trains ≤ length row) where
+  day : dayFor l text size ≡ gives y
+  day = with-room l text size (le-leb 3 size room) reads
+
+  begun : T (begins l y costs choices (length row))
+  begun = memory-suffices l y costs choices (length row) (read-sound l text y reads) costsNamed choicesNamed rowNamed
+
+  answered : planned l y costs choices (length row) ≡ bestAnswer y (bestOf y)
+  answered = planned-begun l y costs choices (length row) begun
+
+  pub record Planned (r : List ℕ) : Type 0 where
+    pub best : Best y r
+    pub says : planFor l text costs choices (length row) size ≡ gives (outcome y r)
+    pub rowIs : rowFor l text costs choices size row ≡ r ++ drop (y .trains) row
+    pub count : slotsFor l text costs choices (length row) size ≡ y .trains
+
+  pub plans-best : SomeRow y → (r : List ℕ) × Planned r
+  unfolding planFor rowFor slotsFor
+  plans-best some-row = go (bestOf y) refl
+    where
+      go : (b : Option (List ℕ)) → bestOf y ≡ b → (r : List ℕ) × Planned r
+      go none e = absurd (is-none y e (some-row .0) (some-row .1))
+      go (some r) e =
+          let is = is-best y r e in (
+            r,
+            record {
+              best = is;
+              says = rw day (answered ∙ ap (bestAnswer y) e);
+              rowIs = rw day (row-begun l y costs choices row begun ∙ ap (λ o. placed o row) e ∙ ap (λ k. r ++ drop k row) (allowed-is y r (is .isAllowed) .long));
+              count = rw day (ap (slotsIn y) (answered ∙ ap (bestAnswer y) e));
+            },
+          )
+
+  pub record Refused : Type 0 where
+    pub first : ℕ
+    pub last : ℕ
+    pub named : FirstOverbooked y first last
+    pub says : planFor l text costs choices (length row) size ≡ refuses 9 (first ∷ last ∷ boundInside y first last ∷ [])
+    pub rowIs : rowFor l text costs choices size row ≡ row
+    pub count : slotsFor l text costs choices (length row) size ≡ 0
+
+  pub plans-nine : NoRow y → Refused
+  unfolding planFor rowFor slotsFor
+  plans-nine nowhere =
+      let e = none-is y nowhere in
+      let (w, f) = no-row-over y (sound-is l y (read-sound l text y reads) .windows) nowhere in
+      record {
+        first = w .first;
+        last = w .last;
+        named = subst (SaysFirst y) f (first-says y);
+        says = rw day (answered ∙ ap (bestAnswer y) e ∙ ap (λ i. refuses 9 (carriedBy y i)) f);
+        rowIs = rw day (row-begun l y costs choices row begun ∙ ap (λ o. placed o row) e);
+        count = rw day (ap (slotsIn y) (answered ∙ ap (bestAnswer y) e));
+      }
+
+-- ---- lent memory, for every text
+
+module _ (l : Limits) (text cost choice row : List ℕ) (size : ℕ) (costAfter choiceAfter : List ℕ)
+    (contractCost : Stays (openFor costWords l text (length cost) (length choice) (length row) size) cost costAfter)
+    (contractChoice : Stays (openFor choiceWords l text (length cost) (length choice) (length row) size) choice choiceAfter) where
+  pub record TextMemory : Type 0 where
+    -- after any refusal but 9 nothing lent has changed
+    pub unchanged : (k : ℕ) (carries : List ℕ) → planFor l text (length cost) (length choice) (length row) size ≡ refuses k carries → (k ≡ 9 → ⊥)
+        → (costAfter ≡ cost) × ((choiceAfter ≡ choice) × (rowFor l text (length cost) (length choice) size row ≡ row))
+    -- after 9 the row has not
+    pub rowKept : (carries : List ℕ) → planFor l text (length cost) (length choice) (length row) size ≡ refuses 9 carries
+        → rowFor l text (length cost) (length choice) size row ≡ row
+    -- words beyond the first 2^n and the first T × 2^n are unchanged
+    pub beyond : (y : Yard) → readDay l text ≡ gives y
+        → (drop (2 ^ y .trains) costAfter ≡ drop (2 ^ y .trains) cost) × (drop (y .slots * 2 ^ y .trains) choiceAfter ≡ drop (y .slots * 2 ^ y .trains) choice)
+    -- no slots are told with a refusal
+    pub none : (k : ℕ) (carries : List ℕ) → planFor l text (length cost) (length choice) (length row) size ≡ refuses k carries
+        → slotsFor l text (length cost) (length choice) (length row) size ≡ 0
+
+  pub text-memory : TextMemory
+  unfolding planFor rowFor openFor slotsFor
+  text-memory = go (dayFor l text size) refl
+    where
+      -- a day for a caller with room is the one read
+      same : (a : Answer Yard) (y z : Yard) → a ≡ gives y → checked (must (leb 3 size) 10 (0 ∷ []) ∷ []) a ≡ gives z → y ≡ z
+      same a y z e f = gives-same (sym e ∙ checked-gives (must (leb 3 size) 10 (0 ∷ []) ∷ []) a z f .1)
+
+      untold : (y : Yard) (a : Answer Outcome) (k : ℕ) (carries : List ℕ) → a ≡ refuses k carries → slotsIn y a ≡ 0
+      untold y a k carries e = ap (slotsIn y) e
+
+      two : {k : ℕ} → (k ≡ 8) ⊎ ((k ≡ 10) ⊎ (k ≡ 9)) → (k ≡ 9 → ⊥) → (k ≡ 8) ⊎ (k ≡ 10)
+      two (inl a) n = inl a
+      two (inr (inl b)) n = inr b
+      two (inr (inr c)) n = absurd (n c)
+
+      go : (a : Answer Yard) → dayFor l text size ≡ a → TextMemory
+      go (refuses k carries) e = record {
+        unchanged = λ m values q n. (rw e at contractCost, (rw e at contractChoice, rw e));
+        rowKept = λ values q. rw e;
+        beyond = λ y r. (ap (drop (2 ^ y .trains)) (rw e at contractCost), ap (drop (y .slots * 2 ^ y .trains)) (rw e at contractChoice));
+        none = λ m values q. rw e;
+      }
+      go (gives y) e =
+          let answer = planned l y (length cost) (length choice) (length row) in
+          let m = memory-after l y cost choice row answer costAfter choiceAfter (rowAfter l y (length cost) (length choice) row) refl refl (rw e at contractCost) (rw e at contractChoice) in
+          record {
+            unchanged = λ k values q n.
+                let r : answer ≡ refuses k values = rw e at q in
+                let u = m .unchanged r (two (refuses-only l y (length cost) (length choice) (length row) r) n) in
+                (u .0, (u .1 .0, rw e (u .1 .1)));
+            rowKept = λ values q. let r : answer ≡ refuses 9 values = rw e at q in rw e (m .rowKept r);
+            beyond = λ z r. let is : z ≡ y = same (readDay l text) z y r e in rw is (m .costBeyond, m .choiceBeyond);
+            none = λ k values q. let r : answer ≡ refuses k values = rw e at q in rw e (untold y answer k values r);
+          }

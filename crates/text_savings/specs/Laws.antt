@@ -1,0 +1,60 @@
+-- What is told of a comparison, and each answer for a text, from what the code has found.
+-- Assumes nothing.
+use mathlib.Core.Path.{_≡_, refl, ap, _∙_}
+use mathlib.Core.Bool.{true, false}
+use mathlib.Core.List.{List, _++_}
+use Prim.Native.Nat.{ℕ}
+use lib.Dec.{leb}
+use lib.IntN.{ℤ, pos}
+use lib.ListN.{length, drop}
+use Rattle.model.specs.Model.{Yard}
+use Rattle.day.specs.Answer.{Answer, gives, refuses, refusal, code, onGiven}
+use Rattle.day.specs.declared.Limits.{Limits}
+use Rattle.day.specs.declared.Refusal.{Refusal}
+use Rattle.dayfile.specs.Reading.{readDay}
+use Rattle.planning.specs.Planning.{costArea, choiceArea}
+use Rattle.baselines.specs.Baselines.{Comparison, comparisonOf, answer, comparisonOrZero, compared}
+use Rattle.baselines.specs.declared.Baseline.{Baseline}
+use Rattle.telling.specs.Telling.{three, numbersAfter}
+use Rattle.telling.specs.Laws.{Told, none-told}
+use Rattle.text_savings.specs.TextSavings.{compareText, outcomes}
+
+-- ---- what is told of a comparison
+
+pub record ToldSaving (before : List ℕ) (a : Answer Comparison) (said : ℕ) (after : List ℕ) (saved : ℤ) : Type 0 where
+  pub says : said ≡ code a
+  pub numbers : after ≡ three (outcomes a) ++ drop 3 before
+  pub saving : saved ≡ comparisonOrZero a .saving
+
+code-outcomes : (a : Answer Comparison) → code (outcomes a) ≡ code a
+code-outcomes (gives c) = refl
+code-outcomes (refuses k carries) = refl
+
+pub told-baseline : (b : Baseline) {before after : List ℕ} {said : ℕ} {saved : ℤ} → comparisonOf b ≡ comparisonOrZero (answer (b .verdict) (comparisonOf b)) → saved ≡ b .saving
+    → Told before (outcomes (answer (b .verdict) (comparisonOf b))) said after → ToldSaving before (answer (b .verdict) (comparisonOf b)) said after saved
+told-baseline b beside e t = record {
+  says = t .says ∙ code-outcomes (answer (b .verdict) (comparisonOf b));
+  numbers = t .numbers;
+  saving = e ∙ ap (λ (c : Comparison). c .saving) beside;
+}
+
+pub told-refused : (r : Refusal) {before after : List ℕ} {said : ℕ} → Told before (refusal r) said after → ToldSaving before (refusal r) said after (pos 0)
+told-refused r t = record { says = t .says; numbers = t .numbers; saving = refl }
+
+-- ---- each answer for a text
+
+module _ (l : Limits) (text numbers : List ℕ) (procedure : Yard → List ℕ) where
+  pub no-saving : leb 3 (length numbers) ≡ false
+      → (10 ≡ code (compareText procedure l text (length numbers)))
+      × ((numbers ≡ numbersAfter (outcomes (compareText procedure l text (length numbers))) numbers)
+      × (pos 0 ≡ comparisonOrZero (compareText procedure l text (length numbers)) .saving))
+  unfolding compareText
+  no-saving h = (rw h, (none-told _ numbers h, rw h))
+
+  pub told-saving : {a : Answer Comparison} {said : ℕ} {after : List ℕ} {saving : ℤ} → leb 3 (length numbers) ≡ true
+      → onGiven (readDay l text) (λ y. compared l y (procedure y) costArea choiceArea) ≡ a → ToldSaving numbers a said after saving
+      → (said ≡ code (compareText procedure l text (length numbers)))
+      × ((after ≡ numbersAfter (outcomes (compareText procedure l text (length numbers))) numbers)
+      × (saving ≡ comparisonOrZero (compareText procedure l text (length numbers)) .saving))
+  unfolding compareText numbersAfter
+  told-saving h e t = (rw (h, e) (t .says), (rw (h, e) (t .numbers), rw (h, e) (t .saving)))
