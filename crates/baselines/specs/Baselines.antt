@@ -6,10 +6,8 @@ use Prim.Native.Nat.{ℕ, suc}
 use lib.Dec.{eqb}
 use lib.IntN.{ℤ, pos, _-ℤ_}
 use Rattle.model.specs.Model.{Yard, Outcome, outcome, cost}
-use Rattle.day.specs.Answer.{Answer, gives, refuses, refusal, onGiven, Check, must, checked}
+use Rattle.day.specs.Answer.{Answer, gives, refuses, onGiven, Check, must, checked}
 use Rattle.day.specs.declared.Limits.{Limits}
-use Rattle.day.specs.declared.Verdict.{Verdict}
-use Rattle.day.specs.declared.Verdict.the-variants.{Accepted, Refused}
 use Rattle.counting.specs.Counting.{outcomeOf, noOutcome}
 use Rattle.planning.specs.Planning.{costWords, choiceWords, planned, begins, openWords}
 use Rattle.procedures.specs.Procedures.{leftOver, firstCome, myopic}
@@ -27,14 +25,10 @@ abbrev pub rowBy : Procedure → Yard → List ℕ
 rowBy FirstCome y = firstCome y
 rowBy Myopic y = myopic y
 
--- ---- the code's answer in the numbers of 01 and 02
+-- ---- the numbers of the code's record
 
 abbrev pub comparisonOf : Baseline → Comparison
 comparisonOf b = record { outcome = outcomeOf (b .value); saving = b .saving }
-
-abbrev pub answer : Verdict → Comparison → Answer Comparison
-answer Accepted c = gives c
-answer (Refused r) c = refusal r
 
 -- the numbers beside the answer, zeros with a refusal
 abbrev pub comparisonOrZero : Answer Comparison → Comparison

@@ -10,7 +10,7 @@ use lib.IntN.{ℤ, pos, _-ℤ_}
 use lib.ListN.{length, take, drop, replicate, length-append}
 use borrow.Author.Tests.{eq-eqb, ne-eqb}
 use Rattle.model.specs.Model.{Yard, Outcome, outcome, cost}
-use Rattle.day.specs.Answer.{Answer, gives, refuses}
+use Rattle.day.specs.Answer.{Answer, gives, refuses, judged}
 use Rattle.day.specs.Sound.{dayLimits, sound}
 use Rattle.day.specs.Most.{cost-most}
 use Rattle.day.specs.declared.Limits.{Limits}
@@ -20,12 +20,12 @@ use Rattle.counting.specs.Counting.{outcomeOf}
 use Rattle.counting.specs.declared.Value.{Value}
 use Rattle.planning.specs.Planning.{planned}
 use Rattle.procedures.specs.Procedures.{leftOver}
-use Rattle.baselines.specs.Baselines.{Comparison, comparisonOf, answer, comparisonOrZero, against, compared}
+use Rattle.baselines.specs.Baselines.{Comparison, comparisonOf, comparisonOrZero, against, compared}
 use Rattle.baselines.specs.declared.Baseline.{Baseline}
 
 -- the code's record says an answer, with its numbers or zeros beside it
 pub record Says (a : Answer Comparison) (b : Baseline) : Type 0 where
-  pub says : answer (b .verdict) (comparisonOf b) ≡ a
+  pub says : judged (b .verdict) (comparisonOf b) ≡ a
   pub beside : comparisonOf b ≡ comparisonOrZero a
 
 -- ---- a row against the planned cost

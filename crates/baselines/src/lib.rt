@@ -8,11 +8,11 @@ ghost use mathlib.Core.Path.{_≡_};
 ghost use Prim.Native.Nat.{_^_, _≤_, _<_};
 ghost use lib.Dec.{T};
 ghost use lib.ListN.{length, replicate};
-ghost use Rattle.day.specs.Answer.{refusal};
+ghost use Rattle.day.specs.Answer.{refusal, judged};
 ghost use Rattle.day.specs.Sound.{dayLimits, yard, sound};
 ghost use Rattle.planning.specs.Planning.{answer as planAnswer, planned, Stays};
 ghost use Rattle.procedures.specs.Procedures.{firstCome, myopic};
-ghost use Rattle.baselines.specs.Baselines.{answer, comparisonOf, comparisonOrZero, rowBy, against, compared, openCosts, openChoices};
+ghost use Rattle.baselines.specs.Baselines.{comparisonOf, comparisonOrZero, rowBy, against, compared, openCosts, openChoices};
 ghost use Rattle.baselines.specs.Laws.{Says};
 use counting::Value;
 use day::Day;
@@ -114,7 +114,7 @@ fn compare_with(procedure: Procedure, day: Day, best: u64) -> Baseline
 
 // A procedure against the best plan. `cost` needs 2^n words, `choice` T × 2^n words: else 10.
 pub fn measure(procedure: Procedure, day: Day, cost: &mut [u64], choice: &mut [u16]) -> Baseline
-    ensures { λ r. ⌜ answer (r .verdict) (comparisonOf r) ≡ compared dayLimits (yard day) (rowBy procedure (yard day)) (length (now (cost .entry))) (length (now (choice .entry))) ⌝ }
+    ensures { λ r. ⌜ judged (r .verdict) (comparisonOf r) ≡ compared dayLimits (yard day) (rowBy procedure (yard day)) (length (now (cost .entry))) (length (now (choice .entry))) ⌝ }
     ensures { λ r. ⌜ comparisonOf r ≡ comparisonOrZero (compared dayLimits (yard day) (rowBy procedure (yard day)) (length (now (cost .entry))) (length (now (choice .entry)))) ⌝ }
     ensures { λ r. ⌜ Stays (openCosts dayLimits (yard day) (length (now (cost .entry))) (length (now (choice .entry)))) (now (cost .entry)) (now (cost .exit)) ⌝ }
     ensures { λ r. ⌜ Stays (openChoices dayLimits (yard day) (length (now (cost .entry))) (length (now (choice .entry)))) (now (choice .entry)) (now (choice .exit)) ⌝ }
@@ -127,7 +127,7 @@ pub fn measure(procedure: Procedure, day: Day, cost: &mut [u64], choice: &mut [u
 
 // First come, first served: the trains in file order each take the earliest slot in their window with a track free.
 pub fn first_come_first_served(day: Day, cost: &mut [u64], choice: &mut [u16]) -> Baseline
-    ensures { λ r. ⌜ answer (r .verdict) (comparisonOf r) ≡ compared dayLimits (yard day) (firstCome (yard day)) (length (now (cost .entry))) (length (now (choice .entry))) ⌝ }
+    ensures { λ r. ⌜ judged (r .verdict) (comparisonOf r) ≡ compared dayLimits (yard day) (firstCome (yard day)) (length (now (cost .entry))) (length (now (choice .entry))) ⌝ }
     ensures { λ r. ⌜ comparisonOf r ≡ comparisonOrZero (compared dayLimits (yard day) (firstCome (yard day)) (length (now (cost .entry))) (length (now (choice .entry)))) ⌝ }
     ensures { λ r. ⌜ Stays (openCosts dayLimits (yard day) (length (now (cost .entry))) (length (now (choice .entry)))) (now (cost .entry)) (now (cost .exit)) ⌝ }
     ensures { λ r. ⌜ Stays (openChoices dayLimits (yard day) (length (now (cost .entry))) (length (now (choice .entry)))) (now (choice .entry)) (now (choice .exit)) ⌝ }
@@ -138,7 +138,7 @@ pub fn first_come_first_served(day: Day, cost: &mut [u64], choice: &mut [u16]) -
 // The myopic start procedure (source 000, section 4.2): slot after slot and track after track the train that adds least by (11), of those
 // whose window holds the slot.
 pub fn myopic_start(day: Day, cost: &mut [u64], choice: &mut [u16]) -> Baseline
-    ensures { λ r. ⌜ answer (r .verdict) (comparisonOf r) ≡ compared dayLimits (yard day) (myopic (yard day)) (length (now (cost .entry))) (length (now (choice .entry))) ⌝ }
+    ensures { λ r. ⌜ judged (r .verdict) (comparisonOf r) ≡ compared dayLimits (yard day) (myopic (yard day)) (length (now (cost .entry))) (length (now (choice .entry))) ⌝ }
     ensures { λ r. ⌜ comparisonOf r ≡ comparisonOrZero (compared dayLimits (yard day) (myopic (yard day)) (length (now (cost .entry))) (length (now (choice .entry)))) ⌝ }
     ensures { λ r. ⌜ Stays (openCosts dayLimits (yard day) (length (now (cost .entry))) (length (now (choice .entry)))) (now (cost .entry)) (now (cost .exit)) ⌝ }
     ensures { λ r. ⌜ Stays (openChoices dayLimits (yard day) (length (now (cost .entry))) (length (now (choice .entry)))) (now (choice .entry)) (now (choice .exit)) ⌝ }

@@ -6,6 +6,8 @@ use mathlib.Core.List.{List, [], _∷_}
 use Prim.Native.Nat.{ℕ}
 use Rattle.day.specs.declared.Refusal.{Refusal}
 use Rattle.day.specs.declared.Refusal.the-variants.{NamesLine, RowForm, OutOfLimits, NumberOrder, WindowOrder, UnknownTrain, PairOrder, Unsound, NoAllowedRow, TooShort, RowLength, OutsideWindow, SlotOverfull, WithoutSlot}
+use Rattle.day.specs.declared.Verdict.{Verdict}
+use Rattle.day.specs.declared.Verdict.the-variants.{Accepted, Refused}
 
 pub data Answer (X : Type 0) : Type 0 where
   gives : X → Answer X
@@ -47,6 +49,11 @@ carried (WithoutSlot position) = position ∷ []
 
 abbrev pub refusal : {X : Type 0} → Refusal → Answer X
 refusal r = refuses (number r) (carried r)
+
+-- what stands beside a verdict, where it is accepted
+abbrev pub judged : {X : Type 0} → Verdict → X → Answer X
+judged Accepted x = gives x
+judged (Refused r) x = refusal r
 
 -- the number of an answer, 0 where something is given
 abbrev pub code : {X : Type 0} → Answer X → ℕ

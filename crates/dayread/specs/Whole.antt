@@ -7,7 +7,7 @@ use native.Mathlib.Omega.{arith}
 use lib.ListN.{length, take, drop, replicate, length-map}
 use lib.Seq.{take-append-seam}
 use Rattle.model.specs.Model.{Yard}
-use Rattle.day.specs.Answer.{Answer, gives, refusal}
+use Rattle.day.specs.Answer.{Answer, gives, refusal, judged}
 use Rattle.day.specs.AnswerLaws.{given-then}
 use Rattle.day.specs.Sound.{dayFrom, headRanges}
 use Rattle.day.specs.SoundLaws.{within-is}
@@ -25,13 +25,9 @@ use Rattle.dayread.specs.declared.FileRead.the-variants.{Accepted as Is,
 
 -- ---- what the reading call answers
 
-abbrev pub answer : Verdict → Yard → Answer Yard
-answer Accepted y = gives y
-answer (Refused x) y = refusal x
-
 -- the answer is what reading says, and the day beside it is the one read, or zeros
 abbrev pub Reads : Limits → List ℕ → Verdict → Yard → Type 0
-Reads l t verdict y = (answer verdict y ≡ readDay l t) × (y ≡ dayOrZero l (readDay l t))
+Reads l t verdict y = (judged verdict y ≡ readDay l t) × (y ≡ dayOrZero l (readDay l t))
 
 -- ---- a text read into columns and a table, for any limits
 

@@ -6,10 +6,11 @@
 ghost use mathlib.Core.Path.{_≡_};
 ghost use Prim.Native.Nat.{_≤_, _*_};
 ghost use lib.ListN.{replicate};
+ghost use Rattle.day.specs.Answer.{judged};
 ghost use Rattle.day.specs.Sound.{dayLimits, yard};
 ghost use Rattle.dayfile.specs.Reading.{readDay};
 ghost use Rattle.dayfile.specs.Calls.{zeroDay, dayOrZero};
-ghost use Rattle.dayread.specs.Whole.{answer, FileTo};
+ghost use Rattle.dayread.specs.Whole.{FileTo};
 use day::Day;
 use day::Head;
 use day::Limits;
@@ -91,7 +92,7 @@ pub fn read_file(
 
 // Reads a day file.
 pub fn read_day(text: &[u8]) -> Reading
-    ensures { λ r. ⌜ (answer (r .verdict) (yard (r .day)) ≡ readDay dayLimits (now (text .entry))) × (yard (r .day) ≡ dayOrZero dayLimits (readDay dayLimits (now (text .entry)))) ⌝ }
+    ensures { λ r. ⌜ (judged (r .verdict) (yard (r .day)) ≡ readDay dayLimits (now (text .entry))) × (yard (r .day) ≡ dayOrZero dayLimits (readDay dayLimits (now (text .entry)))) ⌝ }
 {
     let mut numbers: [u32; 12] = [0; 12];
     let mut first: [u8; 12] = [0; 12];

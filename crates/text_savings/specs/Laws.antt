@@ -8,12 +8,12 @@ use lib.Dec.{leb}
 use lib.IntN.{ℤ, pos}
 use lib.ListN.{length, drop}
 use Rattle.model.specs.Model.{Yard}
-use Rattle.day.specs.Answer.{Answer, gives, refuses, refusal, code, onGiven}
+use Rattle.day.specs.Answer.{Answer, gives, refuses, refusal, code, onGiven, judged}
 use Rattle.day.specs.declared.Limits.{Limits}
 use Rattle.day.specs.declared.Refusal.{Refusal}
 use Rattle.dayfile.specs.Reading.{readDay}
 use Rattle.planning.specs.Planning.{costArea, choiceArea}
-use Rattle.baselines.specs.Baselines.{Comparison, comparisonOf, answer, comparisonOrZero, compared}
+use Rattle.baselines.specs.Baselines.{Comparison, comparisonOf, comparisonOrZero, compared}
 use Rattle.baselines.specs.declared.Baseline.{Baseline}
 use Rattle.telling.specs.Telling.{three, numbersAfter}
 use Rattle.telling.specs.Laws.{Told, none-told}
@@ -30,10 +30,10 @@ code-outcomes : (a : Answer Comparison) → code (outcomes a) ≡ code a
 code-outcomes (gives c) = refl
 code-outcomes (refuses k carries) = refl
 
-pub told-baseline : (b : Baseline) {before after : List ℕ} {said : ℕ} {saved : ℤ} → comparisonOf b ≡ comparisonOrZero (answer (b .verdict) (comparisonOf b)) → saved ≡ b .saving
-    → Told before (outcomes (answer (b .verdict) (comparisonOf b))) said after → ToldSaving before (answer (b .verdict) (comparisonOf b)) said after saved
+pub told-baseline : (b : Baseline) {before after : List ℕ} {said : ℕ} {saved : ℤ} → comparisonOf b ≡ comparisonOrZero (judged (b .verdict) (comparisonOf b)) → saved ≡ b .saving
+    → Told before (outcomes (judged (b .verdict) (comparisonOf b))) said after → ToldSaving before (judged (b .verdict) (comparisonOf b)) said after saved
 told-baseline b beside e t = record {
-  says = t .says ∙ code-outcomes (answer (b .verdict) (comparisonOf b));
+  says = t .says ∙ code-outcomes (judged (b .verdict) (comparisonOf b));
   numbers = t .numbers;
   saving = e ∙ ap (λ (c : Comparison). c .saving) beside;
 }

@@ -4,10 +4,10 @@
 ghost use mathlib.Core.Path.{_≡_};
 ghost use Prim.Native.Nat.{_≤_};
 ghost use lib.ListN.{length};
-ghost use Rattle.day.specs.Answer.{code};
+ghost use Rattle.day.specs.Answer.{code, judged};
 ghost use Rattle.day.specs.Sound.{dayLimits, yard};
 ghost use Rattle.planning.specs.Planning.{costArea, choiceArea};
-ghost use Rattle.baselines.specs.Baselines.{answer, comparisonOf, comparisonOrZero, rowBy, compared};
+ghost use Rattle.baselines.specs.Baselines.{comparisonOf, comparisonOrZero, rowBy, compared};
 ghost use Rattle.telling.specs.Telling.{numbersAfter};
 ghost use Rattle.text_savings.specs.TextSavings.{compareText, outcomes};
 ghost use Rattle.text_savings.specs.Laws.{ToldSaving};
@@ -19,8 +19,8 @@ use day::Verdict;
 // Stores the numbers of a comparison, or what its refusal carries, and the saving.
 fn tell_baseline(baseline: Baseline, numbers: &mut [u64], saving: &mut i64) -> u64
     requires { ⌜ 3 ≤ length (now numbers) ⌝ }
-    requires { ⌜ comparisonOf baseline ≡ comparisonOrZero (answer (baseline .verdict) (comparisonOf baseline)) ⌝ }
-    ensures { λ r. ⌜ ToldSaving (now (numbers .entry)) (answer (baseline .verdict) (comparisonOf baseline)) r (now (numbers .exit)) (now (saving .exit)) ⌝ }
+    requires { ⌜ comparisonOf baseline ≡ comparisonOrZero (judged (baseline .verdict) (comparisonOf baseline)) ⌝ }
+    ensures { λ r. ⌜ ToldSaving (now (numbers .entry)) (judged (baseline .verdict) (comparisonOf baseline)) r (now (numbers .exit)) (now (saving .exit)) ⌝ }
 {
     let saved = baseline.saving;
     *saving = saved;

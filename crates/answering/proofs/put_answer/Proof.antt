@@ -1,11 +1,10 @@
 -- `answering::put_answer` meets its contract. What reading refuses is told; what it accepts is sound, and planned.
 -- Assumes nothing.
 use mathlib.Core.Path.{_≡_, sym, ap, _∙_}
-use Rattle.day.specs.Answer.{gives, refusal}
+use Rattle.day.specs.Answer.{gives, refusal, judged}
 use Rattle.day.specs.Sound.{dayLimits, yard}
 use Rattle.dayfile.specs.Reading.{readDay}
 use Rattle.dayfile.specs.RoundTrip.{read-sound}
-use Rattle.dayread.specs.Whole.{answer}
 use Rattle.answering.specs.Laws.{refused-answer, accepted-answer}
 use borrow.Author.Needs.{needs}
 use Rattle.answering.proofs.put_answer.Statement.{statement}
@@ -15,13 +14,13 @@ accepted : (c : tie.After-enum-told) → let r = c .before .before .read-day .re
     gives (yard (r .day)) ≡ readDay dayLimits (c .before .before .before .before .before .args .text .now)
 accepted c =
     let d = c .before .before in
-    sym (ap (λ v. answer v (yard (d .read-day .result .day))) (c .enum-told .given .1)) ∙ d .read-day .ensures .0
+    sym (ap (λ v. judged v (yard (d .read-day .result .day))) (c .enum-told .given .1)) ∙ d .read-day .ensures .0
 
 refused : (c : tie.After-known-told) →
     refusal (c .before .verdict .given .0 .0) ≡ readDay dayLimits (c .before .before .before .before .before .before .args .text .now)
 refused c =
     let d = c .before .before .before in
-    sym (ap (λ v. answer v (yard (d .read-day .result .day))) (c .before .verdict .given .1)) ∙ d .read-day .ensures .0
+    sym (ap (λ v. judged v (yard (d .read-day .result .day))) (c .before .verdict .given .1)) ∙ d .read-day .ensures .0
 
 read-day-requires : tie.Need-read-day-requires
 read-day-requires c κs = search needs

@@ -7,10 +7,9 @@ use lib.Dec.{leb, leb→le}
 use lib.ListN.{length}
 use borrow.Author.Tests.{not-true, not-false}
 use Rattle.fold.specs.Test.{of-true}
-use Rattle.day.specs.Answer.{gives, refusal}
+use Rattle.day.specs.Answer.{gives, refusal, judged}
 use Rattle.day.specs.Sound.{dayLimits, yard}
 use Rattle.dayfile.specs.Reading.{readDay}
-use Rattle.dayread.specs.Whole.{answer}
 use Rattle.text_plan.specs.Laws.{PlansText, plans-nothing, plans-refused, plans-day}
 use borrow.Author.Needs.{needs}
 use Rattle.text_plan.proofs.plan_text.Statement.{statement}
@@ -44,12 +43,12 @@ fits c = leb→le 3 _ (of-true (room c))
 accepted : (c : tie.After-enum-told) → readDay dayLimits (start (past-room c) .args .text .now) ≡ gives (yard (c .before .before .read-day .result .day))
 accepted c =
     let d = c .before .before .read-day in
-    sym (d .ensures .0) ∙ ap (λ v. answer v (yard (d .result .day))) (c .enum-told .given .1)
+    sym (d .ensures .0) ∙ ap (λ v. judged v (yard (d .result .day))) (c .enum-told .given .1)
 
 refused : (c : tie.After-verdict) → readDay dayLimits (start (past-room-2 c) .args .text .now) ≡ refusal (c .verdict .given .0 .0)
 refused c =
     let d = c .before .before .read-day in
-    sym (d .ensures .0) ∙ ap (λ v. answer v (yard (d .result .day))) (c .verdict .given .1)
+    sym (d .ensures .0) ∙ ap (λ v. judged v (yard (d .result .day))) (c .verdict .given .1)
 
 is-room-requires : tie.Need-is-room-requires
 is-room-requires c κs = search needs

@@ -7,10 +7,9 @@ use lib.Dec.{leb, leb→le}
 use lib.ListN.{length}
 use borrow.Author.Tests.{not-true, not-false}
 use Rattle.fold.specs.Test.{of-true}
-use Rattle.day.specs.Answer.{gives, refusal, onGiven}
+use Rattle.day.specs.Answer.{gives, refusal, onGiven, judged}
 use Rattle.day.specs.Sound.{dayLimits, yard}
 use Rattle.dayfile.specs.Reading.{readDay}
-use Rattle.dayread.specs.Whole.{answer}
 use Rattle.baselines.specs.Baselines.{rowBy, compared}
 use Rattle.planning.specs.Planning.{costArea, choiceArea}
 use Rattle.text_savings.specs.Laws.{no-saving, told-refused, told-saving}
@@ -39,12 +38,12 @@ fits c = leb→le 3 _ (of-true (room c))
 accepted : (c : tie.After-enum-told) → gives (yard (c .before .before .read-day .result .day)) ≡ readDay dayLimits (start (past-room c) .args .text .now)
 accepted c =
     let d = c .before .before .read-day in
-    sym (ap (λ v. answer v (yard (d .result .day))) (c .enum-told .given .1)) ∙ d .ensures .0
+    sym (ap (λ v. judged v (yard (d .result .day))) (c .enum-told .given .1)) ∙ d .ensures .0
 
 refused : (c : tie.After-verdict) → refusal (c .verdict .given .0 .0) ≡ readDay dayLimits (start (past-room-2 c) .args .text .now)
 refused c =
     let d = c .before .before .read-day in
-    sym (ap (λ v. answer v (yard (d .result .day))) (c .verdict .given .1)) ∙ d .ensures .0
+    sym (ap (λ v. judged v (yard (d .result .day))) (c .verdict .given .1)) ∙ d .ensures .0
 
 is-room-requires : tie.Need-is-room-requires
 is-room-requires c κs = search needs

@@ -4,7 +4,8 @@ use mathlib.Core.Path.{sym, ap}
 use mir.Facts.{toZ-ofZ}
 use mir.Syntax.{w64}
 use mir.Val.{SFits}
-use Rattle.baselines.specs.Baselines.{answer, comparisonOf}
+use Rattle.day.specs.Answer.{judged}
+use Rattle.baselines.specs.Baselines.{comparisonOf}
 use Rattle.text_savings.specs.TextSavings.{outcomes}
 use Rattle.telling.specs.Laws.{told-values, told-same}
 use Rattle.text_savings.specs.Laws.{told-baseline}
@@ -37,7 +38,7 @@ returns c =
     let s = start (t .before .before) in
     let b = s .args .baseline in
     let fits : SFits w64 (b .saving) = search needs in
-    let e = ap (λ v. outcomes (answer v (comparisonOf b))) (t .enum-told .given .1) in
+    let e = ap (λ v. outcomes (judged v (comparisonOf b))) (t .enum-told .given .1) in
     told-baseline b (s .pre .1) (toZ-ofZ fits) (told-values (sym e) (c .before .before .store-value .ensures))
 
 same-length-2 : tie.Need-same-length-2
@@ -49,7 +50,7 @@ returns-2 c =
     let s = start (x .before .before) in
     let b = s .args .baseline in
     let fits : SFits w64 (b .saving) = search needs in
-    let e = ap (λ v. outcomes (answer v (comparisonOf b))) (x .verdict .given .1) in
+    let e = ap (λ v. outcomes (judged v (comparisonOf b))) (x .verdict .given .1) in
     told-baseline b (s .pre .1) (toZ-ofZ fits) (told-same (sym e) (c .before .before .tell .ensures))
 
 pub tell-baseline-spec : {M : Type 1} → statement M

@@ -2,8 +2,7 @@
 -- Assumes nothing.
 use mathlib.Core.Path.{sym, ap, _∙_}
 use Rattle.day.specs.Sound.{yard}
-use Rattle.dayread.specs.Whole.{answer}
-use Rattle.day.specs.Answer.{code}
+use Rattle.day.specs.Answer.{code, judged}
 use Rattle.text_value.specs.TextValue.{line}
 use borrow.Author.Needs.{needs}
 use Rattle.text_value.proofs.check_text.Statement.{statement}
@@ -24,13 +23,13 @@ in-numbers-requires c κs = search needs
 returns : tie.Need-returns
 returns c =
     let d = c .before .before in
-    let e = sym (ap (λ v. answer v (yard (d .read-day .result .day))) (c .enum-told .given .1)) ∙ d .read-day .ensures .0 in
+    let e = sym (ap (λ v. judged v (yard (d .read-day .result .day))) (c .enum-told .given .1)) ∙ d .read-day .ensures .0 in
     (ap code e, ap line e)
 
 returns-2 : tie.Need-returns-2
 returns-2 c =
     let d = c .before .before .before .before in
-    let e = sym (ap (λ v. answer v (yard (d .read-day .result .day))) (c .before .before .verdict .given .1)) ∙ d .read-day .ensures .0 in
+    let e = sym (ap (λ v. judged v (yard (d .read-day .result .day))) (c .before .before .verdict .given .1)) ∙ d .read-day .ensures .0 in
     (c .in-numbers .ensures .number ∙ ap code e, c .in-numbers .ensures .first ∙ ap line e)
 
 pub check-text-spec : {M : Type 1} → statement M
