@@ -1,7 +1,8 @@
 // Writing a day as a day file (document 01): checks 8, then 10; fills the first bytes of the output, returns their count and leaves
 // the bytes beyond. A refusal changes no byte.
 //
-// Proved: for every record and every output `write_day` answers and leaves what `dayWrites` and `dayLeaves` of dayfile's Calls.antt say. The text is put by `day_text`, over columns and a table of any width. Assumes nothing.
+// Proved: for every record and every output `write_day` answers and leaves what `dayWrites` and `dayLeaves` of dayfile's Calls.antt say. The
+// text is put by `day_text`, over columns and a table of any width. Assumes nothing.
 ghost use mathlib.Core.Path.{_≡_};
 ghost use Prim.Native.Nat.{_≤_};
 ghost use lib.ListN.{length};
@@ -35,7 +36,7 @@ pub fn write_day(day: Day, out: &mut [u8]) -> Wrote
     if !day::is_sound(day) {
         return Wrote::Refused(Refusal::Unsound);
     }
-    let mut text = [0u8; 4096];
+    let mut text = [0u8; dayfile::DAY_BYTES];
     let count = put_day(day, &mut text);
     output::write_text(&text[..count], out)
 }

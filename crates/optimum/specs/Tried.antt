@@ -2,10 +2,13 @@
 -- it has at the end. m may be r itself, or a part of r outside which no set passes the test. `tail` reads the values of the next stage.
 -- Assumes nothing.
 use mathlib.Core.Path.{_≡_, sym, _∙_, subst, subst₂}
+use mathlib.Core.Logic.{⊎-elim}
 use Prim.Native.Nat.{ℕ, suc, _+_, _-_, _≤_, _<_}
 use native.Mathlib.Omega.{arith}
 use lib.Bits.{bitAnd}
 use lib.Dec.{T}
+use Rattle.fold.specs.Test.{test}
+use Rattle.fold.specs.Counting.{le-or-lt}
 use Rattle.sets.specs.Subset.{Sub, walk}
 use Rattle.sets.specs.Rest.{meet-left, sub-meet}
 use Rattle.optimum.specs.Least.{Least, least-start, least-take, least-keep, least-next, least-widen}
@@ -28,14 +31,18 @@ module _ {ok : Test} {w : Contribution} {inf : ℕ} {tail : ℕ → ℕ} {t r m 
       let i : candidate ok w inf tail t r s ≡ x = offer-yes inf (ok t r s) (tail (r - s)) (w t r s) may v ∙ sym e in
       record { by = subst (λ y. Least inf (candidate ok w inf tail t r) m s y s) i (least-take (h .by) hs (omega arith)) }
 
-  -- it is not less
-  pub tried-keep : (x : ℕ) → Tried ok w inf tail t r m (suc s) b c → T (ok t r s) → tail (r - s) < inf → x ≡ tail (r - s) + w t r s → b ≤ x
-      → Tried ok w inf tail t r m s b c
-  tried-keep x h may v e l = record { by = least-keep (h .by) (omega (arith, offer-yes inf (ok t r s) (tail (r - s)) (w t r s) may v)) }
+  -- s is passed over: it may not be chosen, or what it leaves has no schedule, or what it offers is not less
+  pub tried-skip : Tried ok w inf tail t r m (suc s) b c → (T (ok t r s) → tail (r - s) < inf → b ≤ tail (r - s) + w t r s) → Tried ok w inf tail t r m s b c
+  tried-skip h no-less = record { by = least-keep (h .by) (⊎-elim (λ may. ⊎-elim none (offers may) (le-or-lt inf (tail (r - s)))) barred (test (ok t r s))) }
+    where
+      offers : T (ok t r s) → tail (r - s) < inf → b ≤ candidate ok w inf tail t r s
+      offers may v = omega (arith, offer-yes inf (ok t r s) (tail (r - s)) (w t r s) may v, no-less may v)
 
-  -- s may not be chosen, or what it leaves has no schedule
-  pub tried-pass : Tried ok w inf tail t r m (suc s) b c → (T (ok t r s) → inf ≤ tail (r - s)) → Tried ok w inf tail t r m s b c
-  tried-pass h none = record { by = least-keep (h .by) (omega (arith, h .by .capped, offer-no inf (ok t r s) (tail (r - s)) (w t r s) none)) }
+      none : inf ≤ tail (r - s) → b ≤ candidate ok w inf tail t r s
+      none v = omega (arith, h .by .capped, offer-no inf (ok t r s) (tail (r - s)) (w t r s) (λ may. v))
+
+      barred : (T (ok t r s) → ⊥) → b ≤ candidate ok w inf tail t r s
+      barred not = omega (arith, h .by .capped, offer-no inf (ok t r s) (tail (r - s)) (w t r s) (λ may. absurd (not may)))
 
   -- the same pair under other names, as where branches meet
   pub tried-is : {b′ c′ : ℕ} → Tried ok w inf tail t r m s b c → b′ ≡ b → c′ ≡ c → Tried ok w inf tail t r m s b′ c′

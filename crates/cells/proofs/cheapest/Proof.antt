@@ -10,7 +10,7 @@ use lib.Dec.{T}
 use Rattle.sets.specs.Subset.{Sub, sub-le, sub-refl, sub-trans, sub-and, walk-sub, walk-lt}
 use Rattle.sets.specs.Rest.{meet-left}
 use Rattle.optimum.specs.Workspace.{at}
-use Rattle.optimum.specs.Tried.{Tried, tried-start, tried-take, tried-keep, tried-pass, tried-is, tried-next, tried-meet}
+use Rattle.optimum.specs.Tried.{Tried, tried-start, tried-take, tried-skip, tried-is, tried-next, tried-meet}
 use Rattle.staging.specs.Tables.{Tables, tablesOf, barred, noCost, fromTables, costFromTables, keyFromTables}
 use Rattle.cells.specs.Laws.{key-sums, may-serve, serve-open, serve-priced}
 use Rattle.cells.proofs.cheapest.Statement.{statement}
@@ -64,13 +64,11 @@ tried c =
     let inv = a .loop .inv in
     let z = from a .args in
     let after = at (z .cost .now) (z .r - a .loop .s) in
-    ⊎-elim (λ x. tried-is (tried-take _ (inv .1) (inv .0) (may a (x .0 .taken)) (x .2 .taken) (ap (λ k. after + k) (x .3 .ensures ∙ key-sums (given a) (suc (z .j)) (z .r) (a .loop .s))) (x .4 .taken)) (x .5) (x .6))
-    (⊎-elim (λ x. tried-is (tried-keep _ (inv .1) (may a (x .0 .taken)) (x .2 .taken) (ap (λ k. after + k) (x .3 .ensures ∙ key-sums (given a) (suc (z .j)) (z .r) (a .loop .s))) (x .4 .left)) (x .5) (x .6))
-    (⊎-elim (λ x. tried-is (tried-pass (inv .1) (λ o. x .2 .left)) (x .3) (x .4))
-    (λ x.
-    tried-is
-    (tried-pass (inv .1) (λ o. absurd (omega (arith, serve-priced (given a) (suc (z .j)) (z .r) (a .loop .s) o, x .0 .left))))
-    (x .1) (x .2))))
+    let sums = key-sums (given a) (suc (z .j)) (z .r) (a .loop .s) in
+    ⊎-elim (λ x. tried-is (tried-take _ (inv .1) (inv .0) (may a (x .0 .taken)) (x .2 .taken) (ap (λ k. after + k) (x .3 .ensures ∙ sums)) (x .4 .taken)) (x .5) (x .6))
+    (⊎-elim (λ x. tried-is (tried-skip (inv .1) (λ o v. omega (arith, x .3 .ensures, sums, x .4 .left))) (x .5) (x .6))
+    (⊎-elim (λ x. tried-is (tried-skip (inv .1) (λ o v. absurd (omega (arith, x .2 .left)))) (x .3) (x .4))
+    (λ x. tried-is (tried-skip (inv .1) (λ o v. absurd (omega (arith, serve-priced (given a) (suc (z .j)) (z .r) (a .loop .s) o, x .0 .left)))) (x .1) (x .2))))
     (c .if1 .came)
 
 mul-ready : tie.Need-mul-ready Inv-loop μ-loop

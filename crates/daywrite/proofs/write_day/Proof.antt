@@ -11,7 +11,7 @@ use Rattle.day.specs.Sound.{dayLimits, yard, sound}
 use Rattle.day.specs.SoundLaws.{sound-is}
 use Rattle.dayfile.specs.Calls.{dayChecks}
 use Rattle.dayfile.specs.Writing.{dayText}
-use Rattle.dayfile.specs.Size.{day-size, day-most}
+use Rattle.dayfile.specs.Size.{dayBytes, day-size, day-most}
 use Rattle.output.specs.Laws.{put-count, put-front, says-refused, says-text}
 use borrow.Author.Needs.{needs}
 use Rattle.daywrite.proofs.write_day.Statement.{statement}
@@ -21,7 +21,7 @@ use Rattle.daywrite.proofs.write_day.Tie as tie
 sound-day : (c : tie.Else1) → sound dayLimits (yard (c .before .before .before .args .day)) ≡ true
 sound-day c = sym (c .before .is-sound .ensures) ∙ not-false _ (c .if1 .left)
 
-text-fits : (c : tie.Else1) → length (dayText (yard (c .before .before .before .args .day))) ≤ 4096
+text-fits : (c : tie.Else1) → length (dayText (yard (c .before .before .before .args .day))) ≤ dayBytes
 text-fits c = omega (arith, day-size dayLimits _ (of-true (sound-day c)), day-most)
 
 -- the buffer's front is that text
