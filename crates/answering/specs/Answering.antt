@@ -1,34 +1,21 @@
 -- What yard-plan prints for a text (document 01, "The program"): the plan file of the best row; on refusals 1 to 7 two lines, names and
 -- values, and on 9 two lines with the interval and its trains. This file is what a reader must believe of the program.
 -- Assumes nothing.
-use mathlib.Core.Bool.{cond}
 use mathlib.Core.List.{List, [], _∷_, _++_}
 use mathlib.Core.Option.{Option, none, some}
 use Prim.Native.Nat.{ℕ}
-use lib.Dec.{eqb}
 use lib.ListN.{length}
 use Rattle.model.specs.Model.{Yard}
 use Rattle.model.specs.BestOf.{bestOf}
 use Rattle.model.specs.Overbooked.{firstOverbooked}
 use Rattle.day.specs.Answer.{Answer, gives, refuses}
 use Rattle.day.specs.declared.Limits.{Limits}
-use Rattle.lines.specs.Lines.{ascii, rowText}
 use Rattle.output.specs.Output.{writes, leaves}
 use Rattle.output.specs.Laws.{Filled, filled}
 use Rattle.dayfile.specs.Reading.{readDay}
+use Rattle.refusal_text.specs.RefusalText.{refusalText}
 use Rattle.planning.specs.Planning.{carriedBy}
 use Rattle.planfile.specs.PlanText.{planText}
-
--- ---- a refusal: the names of its values, and its number before them
-
-unfoldable pub lineNames : List ℕ
-lineNames = ascii "refusal line\n"
-
-unfoldable pub intervalNames : List ℕ
-intervalNames = ascii "refusal first last trains\n"
-
-unfoldable pub refusalText : ℕ → List ℕ → List ℕ
-refusalText k carries = cond (eqb k 9) intervalNames lineNames ++ rowText (k ∷ carries)
 
 -- ---- a sound day: the plan file of its best row, or 9 with the first overbooked interval
 

@@ -1,80 +1,35 @@
--- The laws that the proofs of the answer cite: the two lines of a refusal, the reply to a sound day from what planning has answered, and
--- the answer to a text from what reading has.
+-- The laws that the proofs of the answer cite: the reply to a sound day from what planning has answered, and the answer to a text from what
+-- reading has.
 -- Assumes nothing.
 use mathlib.Core.Path.{_≡_, refl, sym, ap, _∙_}
-use mathlib.Core.Bool.{cond}
 use mathlib.Core.List.{List, [], _∷_, _++_}
 use mathlib.Core.Option.{Option, none, some}
 use Prim.Native.Nat.{ℕ, _+_, _≤_, zero-le}
 use native.Mathlib.Omega.{arith}
-use lib.Dec.{T, eqb}
+use lib.Dec.{T}
 use lib.ListN.{length, getD, drop, length-append, List·getD-append}
-use borrow.Author.Tests.{ne-eqb}
 use Rattle.fold.specs.Listed.{listed-ext}
 use Rattle.model.specs.Model.{Yard, Outcome, outcome}
 use Rattle.model.specs.BestOf.{bestOf, is-best}
 use Rattle.model.specs.Rows.{allowed-is}
 use Rattle.day.specs.Answer.{gives, refuses, number, carried}
-use Rattle.refusals.specs.Numbers.{Tells, carried-values}
-use Rattle.day.specs.Sound.{dayLimits, Range, range, sound}
+use Rattle.day.specs.Sound.{dayLimits, sound}
 use Rattle.day.specs.SoundLaws.{sound-is}
 use Rattle.day.specs.declared.Limits.{Limits}
-use Rattle.refusals.specs.declared.Numbered.{Numbered}
 use Rattle.day.specs.declared.Refusal.{Refusal}
 use Rattle.lines.specs.Lines.{rowText, rowsText}
-use Rattle.lines.specs.RowSize.{mostInRow, digits-size, row-size}
 use Rattle.dayfile.specs.Reading.{readDay}
 use Rattle.planning.specs.Planning.{bestAnswer, placed}
+use Rattle.refusal_text.specs.RefusalText.{refusalText}
+use Rattle.refusal_text.specs.Laws.{refusalBytes}
 use Rattle.planfile.specs.PlanText.{valueNames, slotNames, slotRow, planLines}
 use Rattle.planfile.specs.Size.{planBytes, plan-size, plan-most}
-use Rattle.answering.specs.Answering.{lineNames, intervalNames, refusalText, dayReply, reply, answerText}
+use Rattle.answering.specs.Answering.{dayReply, reply, answerText}
 
--- ---- the two lines of a refusal, as the code tells it
+-- ---- a refusal is no longer than a plan file can be
 
-module _ (r : Refusal) (t : Numbered) (tells : Tells (number r) (carried r) t) where
-  pub nine-lines : t .number ≡ 9 → refusalText (number r) (carried r) ≡ intervalNames ++ rowText (9 ∷ t .first ∷ t .second ∷ t .third ∷ [])
-  unfolding refusalText
-  nine-lines e =
-      let nine : number r ≡ 9 = sym (tells .number) ∙ e in
-      ap (λ v. cond (eqb (number r) 9) intervalNames lineNames ++ rowText (number r ∷ v)) (carried-values r)
-      ∙ rw (nine, tells .first, tells .second, tells .third)
-
-  pub other-lines : (t .number ≡ 9 → ⊥) → refusalText (number r) (carried r) ≡ lineNames ++ rowText (t .number ∷ t .first ∷ [])
-  unfolding refusalText
-  other-lines h =
-      ap (λ v. cond (eqb (number r) 9) intervalNames lineNames ++ rowText (number r ∷ v)) (carried-values r)
-      ∙ rw (ne-eqb (number r) 9 (λ e. h (tells .number ∙ e)), tells .number, tells .first)
-
--- they hold numbers of 64 bits, and so fit
-abbrev word : Range
-word = range 0 18446744073709551615
-
-word-digits : mostInRow (word ∷ []) ≤ 21
-unfolding mostInRow
-word-digits = omega (arith, digits-size 19 18446744073709551615 (omega arith) (omega arith))
-
-abbrev pub Word : ℕ → Type 0
-Word v = v ≤ 18446744073709551615
-
-pub nine-fits : (a b c : ℕ) → Word a → Word b → Word c → length (intervalNames ++ rowText (9 ∷ a ∷ b ∷ c ∷ [])) ≤ planBytes
-unfolding intervalNames mostInRow
-nine-fits a b c h i j =
-    omega (
-      arith,
-      length-append intervalNames (rowText (9 ∷ a ∷ b ∷ c ∷ [])),
-      row-size (word ∷ word ∷ word ∷ word ∷ []) (9 ∷ a ∷ b ∷ c ∷ []) refl ((zero-le, omega arith), ((zero-le, h), ((zero-le, i), ((zero-le, j), tt)))),
-      word-digits,
-    )
-
-pub other-fits : (k a : ℕ) → Word k → Word a → length (lineNames ++ rowText (k ∷ a ∷ [])) ≤ planBytes
-unfolding lineNames mostInRow
-other-fits k a h i =
-    omega (
-      arith,
-      length-append lineNames (rowText (k ∷ a ∷ [])),
-      row-size (word ∷ word ∷ []) (k ∷ a ∷ []) refl ((zero-le, h), ((zero-le, i), tt)),
-      word-digits,
-    )
+pub fits-plan : {P : Type 0} {count : ℕ} → P × (count ≤ refusalBytes) → P × (count ≤ planBytes)
+fits-plan h = (h .0, omega (arith, h .1))
 
 -- ---- the reply to a sound day, from planning's answer and its row
 

@@ -22,7 +22,8 @@ use Rattle.dayfile.specs.Refused.{Lined, read-lined}
 use Rattle.feasibility.specs.RowOrNone.{no-row-over}
 use Rattle.planning.specs.Planning.{carriedBy}
 use Rattle.planfile.specs.PlanText.{planLines}
-use Rattle.answering.specs.Answering.{refusalText, dayReply, reply, answerText}
+use Rattle.refusal_text.specs.RefusalText.{refusalText}
+use Rattle.answering.specs.Answering.{dayReply, reply, answerText}
 
 pub data Printed (text bytes : List ℕ) : Type 0 where
   plan : (y : Yard) (row : List ℕ) → readDay dayLimits text ≡ gives y → Best y row → bytes ≡ planLines (y .trains) (y .numbers) (outcome y row) row → Printed text bytes

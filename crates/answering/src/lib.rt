@@ -8,35 +8,15 @@ ghost use Prim.Native.Nat.{_≤_};
 ghost use lib.Dec.{T};
 ghost use lib.ListN.{length};
 ghost use Rattle.model.specs.BestOf.{bestOf};
-ghost use Rattle.day.specs.Answer.{number, carried};
 ghost use Rattle.day.specs.Sound.{dayLimits, yard, sound};
 ghost use Rattle.decimal.specs.Place.{Put};
 ghost use Rattle.output.specs.Output.{answer};
 ghost use Rattle.planfile.specs.Size.{planBytes};
-ghost use Rattle.answering.specs.Answering.{refusalText, dayReply, answerText, answerWrites, answerLeaves};
+ghost use Rattle.answering.specs.Answering.{dayReply, answerText, answerWrites, answerLeaves};
 use day::Day;
-use day::Refusal;
 use day::Verdict;
 use output::Wrote;
 use planning::Planned;
-
-const LINE_NAMES: [u8; 13] = *b"refusal line\n";
-
-const INTERVAL_NAMES: [u8; 26] = *b"refusal first last trains\n";
-
-// Puts the two lines of a refusal at the front. Gives their length.
-fn put_refusal(out: &mut [u8], refusal: Refusal) -> usize
-    requires { ⌜ planBytes ≤ length (now out) ⌝ }
-    ensures { λ r. ⌜ Put (now (out .entry)) (now (out .exit)) 0 r (refusalText (number refusal) (carried refusal)) × (r ≤ planBytes) ⌝ }
-{
-    let told = refusals::in_numbers(refusal);
-    if told.number == 9 {
-        let next = output::put_bytes(out, 0, &INTERVAL_NAMES);
-        return output::put_four(out, next, 9, told.first, told.second, told.third);
-    }
-    let next = output::put_bytes(out, 0, &LINE_NAMES);
-    output::put_two(out, next, told.number, told.first)
-}
 
 // Plans a sound day and puts the reply at the front: the plan file of the best row, or the two lines of 9. Gives its length. The areas
 // are local; they suffice for every sound day.
@@ -49,7 +29,7 @@ fn put_best(out: &mut [u8], day: Day) -> usize
     let mut choice = [0u16; 32768];
     let mut row = [0u8; 12];
     match planning::plan(day, &mut cost, &mut choice, &mut row) {
-        Planned::Refused(refusal) => put_refusal(out, refusal),
+        Planned::Refused(refusal) => refusal_text::put_refusal(out, refusal),
         Planned::Plan(value) => planfile::put_plan(out, &numbers, &row, day.trains, value),
     }
 }
@@ -62,7 +42,7 @@ fn put_answer(text: &[u8], out: &mut [u8]) -> usize
     let reading = dayread::read_day(text);
     let verdict = reading.verdict;
     match verdict {
-        Verdict::Refused(refusal) => put_refusal(out, refusal),
+        Verdict::Refused(refusal) => refusal_text::put_refusal(out, refusal),
         Verdict::Accepted => put_best(out, reading.day),
     }
 }

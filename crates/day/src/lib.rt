@@ -1,15 +1,13 @@
-// The day record, its soundness, and the refusals of document 01.
+// The day record with the limits of document 01 as data, and the refusals of documents 01 and 02.
 //
-// Proved: `is_sound` is the definition `sound` of specs/Sound.antt for every record, sound or not. A record's parts are tested by
-// functions over slices, a width and limits, so that records of other sizes use them too. Assumes nothing.
+// Proved: the limits and the ranges of a row's fields are those of specs/Sound.antt, which also says when a record is sound. Assumes nothing.
 ghost use mathlib.Core.Path.{_≡_};
 ghost use mathlib.Core.List.{[], _∷_};
-ghost use Prim.Native.Nat.{_≤_, _<_, _*_};
+ghost use Prim.Native.Nat.{_≤_, _<_};
 ghost use lib.ListN.{length};
-ghost use Rattle.fold.specs.Fold.{each};
 ghost use Rattle.model.specs.Model.{cell, inTime};
 ghost use Rattle.model.specs.Cells.{InTable};
-ghost use Rattle.day.specs.Sound.{dayLimits, yard, headOf, dayFrom, range, between, within, headRanges, trainRanges, moveRanges, numberBefore, trainSound, unused, positionSound, pairSound, receiverSound, sound};
+ghost use Rattle.day.specs.Sound.{dayLimits, headOf, range, between, within, headRanges, trainRanges, moveRanges};
 
 // A day. Positions are counted from 0; A(i, j), the boxes that train i receives from train j, stands at i * 12 + j of `boxes`.
 // Unused positions hold 0.
@@ -135,80 +133,6 @@ pub fn move_within(l: Limits, to: u64, from: u64, boxes: u64) -> bool
         & in_range(1, l.boxes as u64, boxes)
 }
 
-// The train number before position i, 0 before the first.
-fn number_before(numbers: &[u32], i: usize) -> u32
-    requires { ⌜ i < length (now numbers) ⌝ }
-    ensures { λ r. ⌜ r ≡ numberBefore (now (numbers .entry)) i ⌝ }
-{
-    if i == 0 {
-        return 0;
-    }
-    let k = i - 1;
-    numbers[k]
-}
-
-// Position i of a train: its fields lie in their ranges, its number rises, its window is in order.
-fn train_sound(l: Limits, slots: u8, numbers: &[u32], first: &[u8], last: &[u8], i: usize) -> bool
-    requires { ⌜ (i < length (now numbers)) × (i < length (now first)) × (i < length (now last)) ⌝ }
-    ensures { λ r. ⌜ r ≡ trainSound l slots (now (numbers .entry)) (now (first .entry)) (now (last .entry)) i ⌝ }
-{
-    train_within(
-        l,
-        wide8(slots),
-        wide32(numbers[i]),
-        wide8(first[i]),
-        wide8(last[i]),
-    )
-        & (number_before(numbers, i) < numbers[i])
-        & (first[i] <= last[i])
-}
-
-fn is_unused(numbers: &[u32], first: &[u8], last: &[u8], i: usize) -> bool
-    requires { ⌜ (i < length (now numbers)) × (i < length (now first)) × (i < length (now last)) ⌝ }
-    ensures { λ r. ⌜ r ≡ unused (now (numbers .entry)) (now (first .entry)) (now (last .entry)) i ⌝ }
-{
-    (numbers[i] == 0) & (first[i] == 0) & (last[i] == 0)
-}
-
-fn position_sound(
-    l: Limits,
-    n: usize,
-    slots: u8,
-    numbers: &[u32],
-    first: &[u8],
-    last: &[u8],
-    i: usize,
-) -> bool
-    requires { ⌜ (i < length (now numbers)) × (i < length (now first)) × (i < length (now last)) ⌝ }
-    ensures { λ r. ⌜ r ≡ positionSound l n slots (now (numbers .entry)) (now (first .entry)) (now (last .entry)) i ⌝ }
-{
-    if i < n {
-        train_sound(l, slots, numbers, first, last, i)
-    } else {
-        is_unused(numbers, first, last, i)
-    }
-}
-
-fn positions_sound(
-    l: Limits,
-    n: usize,
-    slots: u8,
-    numbers: &[u32],
-    first: &[u8],
-    last: &[u8],
-) -> bool
-    requires { ⌜ (l .trains ≤ length (now numbers)) × (l .trains ≤ length (now first)) × (l .trains ≤ length (now last)) ⌝ }
-    ensures { λ r. ⌜ r ≡ each (l .trains) (positionSound l n slots (now (numbers .entry)) (now (first .entry)) (now (last .entry))) ⌝ }
-{
-    let all = l.trains;
-    for i in 0..all {
-        if !position_sound(l, n, slots, numbers, first, last, i) {
-            return false;
-        }
-    }
-    true
-}
-
 // The entry (i, j) of a square table that is stored row after row.
 pub fn cell_at(table: &[u8], width: usize, i: usize, j: usize) -> u8
     requires { ⌜ InTable width (now table) i j ⌝ }
@@ -226,75 +150,6 @@ pub fn is_in_time(first: &[u8], last: &[u8], i: usize, t: u8) -> bool
     (first[i] <= t) & (t <= last[i])
 }
 
-// Boxes pass between two different trains, and keep their limit.
-fn pair_sound(l: Limits, n: usize, width: usize, boxes: &[u8], i: usize, j: usize) -> bool
-    requires { ⌜ InTable width (now boxes) i j ⌝ }
-    ensures { λ r. ⌜ r ≡ pairSound l n width (now (boxes .entry)) i j ⌝ }
-{
-    let b = cell_at(boxes, width, i, j);
-    if (i < n) & (j < n) & (i != j) {
-        b <= l.boxes
-    } else {
-        b == 0
-    }
-}
-
-fn receiver_sound(l: Limits, n: usize, width: usize, boxes: &[u8], i: usize) -> bool
-    requires { ⌜ (l .trains ≤ width) × ((i < width) × (width * width ≤ length (now boxes))) ⌝ }
-    ensures { λ r. ⌜ r ≡ receiverSound l n width (now (boxes .entry)) i ⌝ }
-{
-    let all = l.trains;
-    for j in 0..all {
-        if !pair_sound(l, n, width, boxes, i, j) {
-            return false;
-        }
-    }
-    true
-}
-
-fn boxes_sound(l: Limits, n: usize, width: usize, boxes: &[u8]) -> bool
-    requires { ⌜ (l .trains ≤ width) × (width * width ≤ length (now boxes)) ⌝ }
-    ensures { λ r. ⌜ r ≡ each (l .trains) (receiverSound l n width (now (boxes .entry))) ⌝ }
-{
-    let all = l.trains;
-    for i in 0..all {
-        if !receiver_sound(l, n, width, boxes, i) {
-            return false;
-        }
-    }
-    true
-}
-
-fn is_head_sound(l: Limits, head: Head) -> bool
-    ensures { λ r. ⌜ r ≡ within (headRanges l) (head .trains ∷ head .tracks ∷ head .slots ∷ head .revisit ∷ head .split ∷ []) ⌝ }
-{
-    head_within(
-        l,
-        head.trains as u64,
-        head.tracks as u64,
-        head.slots as u64,
-        head.revisit as u64,
-        head.split as u64,
-    )
-}
-
-// Whether a day is sound that is given by its head, three columns and a table of boxes, each as long as the limits say.
-pub fn is_file_sound(
-    l: Limits,
-    head: Head,
-    numbers: &[u32],
-    first: &[u8],
-    last: &[u8],
-    boxes: &[u8],
-) -> bool
-    requires { ⌜ (length (now numbers) ≡ l .trains) × ((length (now first) ≡ l .trains) × ((length (now last) ≡ l .trains) × (length (now boxes) ≡ l .trains * l .trains))) ⌝ }
-    ensures { λ r. ⌜ r ≡ sound l (dayFrom head (now (numbers .entry)) (now (first .entry)) (now (last .entry)) (l .trains) (now (boxes .entry))) ⌝ }
-{
-    is_head_sound(l, head)
-        & positions_sound(l, head.trains, head.slots, numbers, first, last)
-        & boxes_sound(l, head.trains, l.trains, boxes)
-}
-
 pub fn head_of(day: Day) -> Head
     ensures { λ r. ⌜ r ≡ headOf day ⌝ }
 {
@@ -305,15 +160,4 @@ pub fn head_of(day: Day) -> Head
         revisit: day.revisit,
         split: day.split,
     }
-}
-
-// Whether a record is sound: some day file reads to it. For every record, sound or not.
-pub fn is_sound(day: Day) -> bool
-    ensures { λ r. ⌜ r ≡ sound dayLimits (yard day) ⌝ }
-{
-    let numbers = day.numbers;
-    let first = day.first;
-    let last = day.last;
-    let boxes = day.boxes;
-    is_file_sound(day_limits(), head_of(day), &numbers, &first, &last, &boxes)
 }

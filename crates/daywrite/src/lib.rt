@@ -33,7 +33,7 @@ pub fn write_day(day: Day, out: &mut [u8]) -> Wrote
     ensures { λ r. ⌜ answer r ≡ dayWrites dayLimits (yard day) (length (now (out .entry))) ⌝ }
     ensures { λ r. ⌜ now (out .exit) ≡ dayLeaves dayLimits (yard day) (now (out .entry)) ⌝ }
 {
-    if !day::is_sound(day) {
+    if !day_sound::is_sound(day) {
         return Wrote::Refused(Refusal::Unsound);
     }
     let mut text = [0u8; dayfile::DAY_BYTES];

@@ -32,7 +32,8 @@ use Rattle.lines.specs.Lines.{ascii, byte, names, field, row, rowText, rowsText
 use Rattle.output.specs.Output.{writes}
 use Rattle.valuing.specs.Valuing.{strays, overfull}
 use Rattle.planfile.specs.PlanText.{valueNames, slotNames, planLines, planWrites}
-use Rattle.answering.specs.Answering.{lineNames, intervalNames, refusalText, answerText, answerWrites}
+use Rattle.refusal_text.specs.RefusalText.{lineNames, intervalNames, refusalText}
+use Rattle.answering.specs.Answering.{answerText, answerWrites}
 use Rattle.dayfile.specs.Reading
 use Rattle.dayfile.specs.Reading.{headNames, trainNames, moveNames, position, readTrains, readMoves, readFile, stored, readDay}
 use Rattle.dayfile.specs.Writing.{fileText, moveRows, fileOf, dayText}

@@ -76,7 +76,7 @@ pub fn plan(day: Day, cost: &mut [u64], choice: &mut [u16], row: &mut [u8]) -> P
     ensures { λ r. ⌜ Stays (openWords (begins dayLimits (yard day) (length (now (cost .entry))) (length (now (choice .entry))) (length (now (row .entry)))) (costWords (yard day))) (now (cost .entry)) (now (cost .exit)) ⌝ }
     ensures { λ r. ⌜ Stays (openWords (begins dayLimits (yard day) (length (now (cost .entry))) (length (now (choice .entry))) (length (now (row .entry)))) (choiceWords (yard day))) (now (choice .entry)) (now (choice .exit)) ⌝ }
 {
-    if !day::is_sound(day) {
+    if !day_sound::is_sound(day) {
         return Planned::Refused(Refusal::Unsound);
     }
     let n = day.trains;

@@ -96,7 +96,7 @@ pub fn value_row(
 pub fn value_assignment(day: Day, row: &[u8]) -> Valued
     ensures { λ r. ⌜ answer r ≡ valued dayLimits (yard day) (now (row .entry)) ⌝ }
 {
-    if !day::is_sound(day) {
+    if !day_sound::is_sound(day) {
         return Valued::Refused(Refusal::Unsound);
     }
     let first = day.first;

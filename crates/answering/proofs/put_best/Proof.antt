@@ -17,7 +17,7 @@ use Rattle.planfile.specs.Size.{planBytes}
 use Rattle.planning.specs.Planning.{answer, begins, bestAnswer, placed}
 use Rattle.planning.specs.Answers.{planned-begun, row-begun, areas-suffice}
 use Rattle.answering.specs.Answering.{dayReply}
-use Rattle.answering.specs.Laws.{refused-reply, plan-reply, plan-fits}
+use Rattle.answering.specs.Laws.{fits-plan, refused-reply, plan-reply, plan-fits}
 use borrow.Author.Needs.{needs}
 use Rattle.answering.proofs.put_best.Statement.{statement}
 use Rattle.answering.proofs.put_best.Tie as tie
@@ -104,7 +104,7 @@ returns c =
     let k = f .before .before in
     let p = k .before .before .before .before .before .before in
     let s = start p in
-    rw (← refused-reply (yard (s .args .day)) (k .before .refusal .given .0 .0) (sym (ap answer (k .before .refusal .given .1)) ∙ best-said p)) (f .put-refusal .ensures)
+    rw (← refused-reply (yard (s .args .day)) (k .before .refusal .given .0 .0) (sym (ap answer (k .before .refusal .given .1)) ∙ best-said p)) (fits-plan (f .put-refusal .ensures))
 
 same-length-2 : tie.Need-same-length-2
 same-length-2 c = search needs

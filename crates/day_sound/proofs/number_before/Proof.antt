@@ -1,9 +1,9 @@
--- `day::number_before` meets its contract. By the two cases of the index.
+-- `day_sound::number_before` meets its contract. By the two cases of the index.
 -- Assumes nothing.
 use Rattle.day.specs.SoundLaws.{number-before, number-first}
 use borrow.Author.Needs.{needs}
-use Rattle.day.proofs.number_before.Statement.{statement}
-use Rattle.day.proofs.number_before.Tie as tie
+use Rattle.day_sound.proofs.number_before.Statement.{statement}
+use Rattle.day_sound.proofs.number_before.Tie as tie
 
 returns : tie.Need-returns
 returns c = number-first _ _ (c .if1 .taken)

@@ -1,9 +1,9 @@
--- `day::pair_sound` meets its contract. By the two cases of the test that both are trains and differ.
+-- `day_sound::pair_sound` meets its contract. By the two cases of the test that both are trains and differ.
 -- Assumes nothing.
 use Rattle.day.specs.Sound.{pairSound}
 use borrow.Author.Needs.{needs}
-use Rattle.day.proofs.pair_sound.Statement.{statement}
-use Rattle.day.proofs.pair_sound.Tie as tie
+use Rattle.day_sound.proofs.pair_sound.Statement.{statement}
+use Rattle.day_sound.proofs.pair_sound.Tie as tie
 
 cell-at-requires : tie.Need-cell-at-requires
 cell-at-requires c κs = search needs

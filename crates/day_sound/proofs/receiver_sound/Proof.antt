@@ -1,4 +1,4 @@
--- `day::receiver_sound` meets its contract. The loop's invariant: every entry of the row passed is sound.
+-- `day_sound::receiver_sound` meets its contract. The loop's invariant: every entry of the row passed is sound.
 -- Assumes nothing.
 use Prim.Native.Nat.{_≤_, _-_}
 use mathlib.Core.Path.{_≡_, sym, _∙_}
@@ -6,9 +6,9 @@ use mathlib.Core.Bool.{true}
 use borrow.Author.Needs.{needs}
 use borrow.Author.Tests.{not-true, not-false}
 use Rattle.fold.specs.Fold.{each, each-none, each-next, each-end, each-fails}
 use Rattle.day.specs.Sound.{pairSound, receiverSound}
-use Rattle.day.proofs.receiver_sound.Statement.{statement}
-use Rattle.day.proofs.receiver_sound.Tie as tie
+use Rattle.day_sound.proofs.receiver_sound.Statement.{statement}
+use Rattle.day_sound.proofs.receiver_sound.Tie as tie
 
 abbrev Inv-loop : tie.InvT-loop
 Inv-loop l n width boxes i all j₀ j = (j ≤ all) × (each j (pairSound l n width boxes i) ≡ true)

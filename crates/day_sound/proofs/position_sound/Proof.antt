@@ -1,10 +1,10 @@
--- `day::position_sound` meets its contract. By the two cases of the test that the position is a train's.
+-- `day_sound::position_sound` meets its contract. By the two cases of the test that the position is a train's.
 -- Assumes nothing.
 use borrow.Author.Tests.{lt-ltb, le-ltb}
 use Rattle.day.specs.Sound.{positionSound}
 use borrow.Author.Needs.{needs}
-use Rattle.day.proofs.position_sound.Statement.{statement}
-use Rattle.day.proofs.position_sound.Tie as tie
+use Rattle.day_sound.proofs.position_sound.Statement.{statement}
+use Rattle.day_sound.proofs.position_sound.Tie as tie
 
 train-sound-requires : tie.Need-train-sound-requires
 train-sound-requires c κs = search needs

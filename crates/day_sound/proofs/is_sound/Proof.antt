@@ -1,12 +1,12 @@
--- `day::is_sound` meets its contract. The arrays of a record have the lengths that the limits of a day say.
+-- `day_sound::is_sound` meets its contract. The arrays of a record have the lengths that the limits of a day say.
 -- Assumes nothing.
 use mathlib.Core.Path.{_≡_, ap, sym, _∙_}
 use Prim.Native.Nat.{_*_}
 use lib.ListN.{length}
 use Rattle.day.specs.declared.Limits.{Limits}
 use borrow.Author.Needs.{needs}
-use Rattle.day.proofs.is_sound.Statement.{statement}
-use Rattle.day.proofs.is_sound.Tie as tie
+use Rattle.day_sound.proofs.is_sound.Statement.{statement}
+use Rattle.day_sound.proofs.is_sound.Tie as tie
 
 -- the arrays of a record have its lengths
 numbers-all : (s : tie.Start) → length (s .args .day .numbers) ≡ 12

@@ -1,4 +1,4 @@
--- `answering::put_refusal` meets its contract. The names line by the number, and the row after it; numbers of 64 bits fit.
+-- `refusal_text::put_refusal` meets its contract. The names line by the number, and the row after it; numbers of 64 bits fit.
 -- Assumes nothing.
 use mathlib.Core.List.{[], _∷_, _++_}
 use native.Mathlib.Omega.{arith}
@@ -8,11 +8,11 @@ use Rattle.decimal.specs.Place.{Put}
 use Rattle.decimal.specs.PlaceLaws.{put-text}
 use Rattle.lines.specs.Lines.{rowText}
 use Rattle.output.specs.Laws.{put-count}
-use Rattle.answering.specs.Answering.{lineNames, intervalNames}
-use Rattle.answering.specs.Laws.{Word, nine-lines, other-lines, nine-fits, other-fits}
+use Rattle.refusal_text.specs.RefusalText.{lineNames, intervalNames}
+use Rattle.refusal_text.specs.Laws.{Word, nine-lines, other-lines, nine-fits, other-fits}
 use borrow.Author.Needs.{needs}
-use Rattle.answering.proofs.put_refusal.Statement.{statement}
-use Rattle.answering.proofs.put_refusal.Tie as tie
+use Rattle.refusal_text.proofs.put_refusal.Statement.{statement}
+use Rattle.refusal_text.proofs.put_refusal.Tie as tie
 
 -- the refusal's number and values are words
 number-word : (c : tie.After-struct-known) → Word (c .before .in-numbers .result .number)

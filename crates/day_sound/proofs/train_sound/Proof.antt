@@ -1,9 +1,9 @@
--- `day::train_sound` meets its contract. The test is the definition's, with the number before put in.
+-- `day_sound::train_sound` meets its contract. The test is the definition's, with the number before put in.
 -- Assumes nothing.
 use Rattle.day.specs.Sound.{trainSound}
 use borrow.Author.Needs.{needs}
-use Rattle.day.proofs.train_sound.Statement.{statement}
-use Rattle.day.proofs.train_sound.Tie as tie
+use Rattle.day_sound.proofs.train_sound.Statement.{statement}
+use Rattle.day_sound.proofs.train_sound.Tie as tie
 
 wide8-requires : tie.Need-wide8-requires
 wide8-requires c κs = search needs

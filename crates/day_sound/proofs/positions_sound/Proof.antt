@@ -1,4 +1,4 @@
--- `day::positions_sound` meets its contract. The loop's invariant: every position passed is sound.
+-- `day_sound::positions_sound` meets its contract. The loop's invariant: every position passed is sound.
 -- Assumes nothing.
 use Prim.Native.Nat.{_≤_, _-_}
 use mathlib.Core.Path.{_≡_, sym, _∙_}
@@ -6,9 +6,9 @@ use mathlib.Core.Bool.{true}
 use borrow.Author.Needs.{needs}
 use borrow.Author.Tests.{not-true, not-false}
 use Rattle.fold.specs.Fold.{each, each-none, each-next, each-end, each-fails}
 use Rattle.day.specs.Sound.{positionSound}
-use Rattle.day.proofs.positions_sound.Statement.{statement}
-use Rattle.day.proofs.positions_sound.Tie as tie
+use Rattle.day_sound.proofs.positions_sound.Statement.{statement}
+use Rattle.day_sound.proofs.positions_sound.Tie as tie
 
 abbrev Inv-loop : tie.InvT-loop
 Inv-loop l n slots numbers first last all i₀ i = (i ≤ all) × (each i (positionSound l n slots numbers first last) ≡ true)

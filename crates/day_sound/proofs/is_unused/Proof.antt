@@ -1,10 +1,10 @@
--- `day::is_unused` meets its contract. The test is the definition's, word for word.
+-- `day_sound::is_unused` meets its contract. The test is the definition's, word for word.
 -- Assumes nothing.
 use mathlib.Core.Path.{refl}
 use Rattle.day.specs.Sound.{unused}
 use borrow.Author.Needs.{needs}
-use Rattle.day.proofs.is_unused.Statement.{statement}
-use Rattle.day.proofs.is_unused.Tie as tie
+use Rattle.day_sound.proofs.is_unused.Statement.{statement}
+use Rattle.day_sound.proofs.is_unused.Tie as tie
 
 mul-result : tie.Need-mul-result
 mul-result c = search needs

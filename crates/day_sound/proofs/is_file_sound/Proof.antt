@@ -1,14 +1,14 @@
--- `day::is_file_sound` meets its contract. The shape is what is asked for, and each part has its own function.
+-- `day_sound::is_file_sound` meets its contract. The shape is what is asked for, and each part has its own function.
 -- Assumes nothing.
 use mathlib.Core.Path.{refl}
 use native.Mathlib.Omega.{arith}
 use Prim.Native.Nat.{_*_}
 use lib.ListN.{length}
 use borrow.Author.Tests.{eq-eqb}
 use Rattle.day.specs.Sound.{shaped, sound}
 use borrow.Author.Needs.{needs}
-use Rattle.day.proofs.is_file_sound.Statement.{statement}
-use Rattle.day.proofs.is_file_sound.Tie as tie
+use Rattle.day_sound.proofs.is_file_sound.Statement.{statement}
+use Rattle.day_sound.proofs.is_file_sound.Tie as tie
 
 is-head-sound-requires : tie.Need-is-head-sound-requires
 is-head-sound-requires c κs = search needs

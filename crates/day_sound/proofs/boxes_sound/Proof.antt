@@ -1,4 +1,4 @@
--- `day::boxes_sound` meets its contract. The loop's invariant: every row of the table passed is sound.
+-- `day_sound::boxes_sound` meets its contract. The loop's invariant: every row of the table passed is sound.
 -- Assumes nothing.
 use Prim.Native.Nat.{_≤_, _-_}
 use mathlib.Core.Path.{_≡_, sym, _∙_}
@@ -6,9 +6,9 @@ use mathlib.Core.Bool.{true}
 use borrow.Author.Needs.{needs}
 use borrow.Author.Tests.{not-true, not-false}
 use Rattle.fold.specs.Fold.{each, each-none, each-next, each-end, each-fails}
 use Rattle.day.specs.Sound.{receiverSound}
-use Rattle.day.proofs.boxes_sound.Statement.{statement}
-use Rattle.day.proofs.boxes_sound.Tie as tie
+use Rattle.day_sound.proofs.boxes_sound.Statement.{statement}
+use Rattle.day_sound.proofs.boxes_sound.Tie as tie
 
 abbrev Inv-loop : tie.InvT-loop
 Inv-loop l n width boxes all i₀ i = (i ≤ all) × (each i (receiverSound l n width boxes) ≡ true)
