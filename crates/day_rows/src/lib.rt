@@ -160,3 +160,11 @@ pub fn read_names(text: &[u8], at: usize, line: usize, word: &[u8]) -> Step
     };
     Step::Next(next)
 }
+
+// A value that is known to fit a byte.
+pub fn narrow(x: u32) -> u8
+    requires { ⌜ x ≤ 255 ⌝ }
+    ensures { λ r. ⌜ r ≡ x ⌝ }
+{
+    x as u8
+}

@@ -19,7 +19,8 @@ use Rattle.dayfile.specs.Reading.{field1, field2, field3, headChecks, headNames
 use Rattle.dayfile.specs.Files.{row-line-read}
 use Rattle.dayfile.specs.Calls.{zeroDay, dayOrZero}
 use Rattle.day_rows.specs.Steps.{rowRest, RowTo}
-use Rattle.day_sections.specs.Sections.{TrainsRead, MovesRead}
+use Rattle.day_trains.specs.Trains.{TrainsRead}
+use Rattle.day_moves.specs.Moves.{MovesRead}
 use Rattle.dayread.specs.declared.FileRead.{FileRead}
 use Rattle.dayread.specs.declared.FileRead.the-variants.{Accepted as Is, Refused as IsNot}
 

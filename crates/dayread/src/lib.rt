@@ -59,7 +59,7 @@ pub fn read_file(
     requires { ⌜ (l .trains ≤ 900) × ((now numbers ≡ replicate (l .trains) 0) × ((now first ≡ replicate (l .trains) 0) × ((now last ≡ replicate (l .trains) 0) × (now boxes ≡ replicate (l .trains * l .trains) 0)))) ⌝ }
     ensures { λ r. ⌜ FileTo l (now (text .entry)) (now (numbers .exit)) (now (first .exit)) (now (last .exit)) (now (boxes .exit)) r ⌝ }
 {
-    let head = day_sections::read_head(l, text);
+    let head = day_trains::read_head(l, text);
     let Line::Row {
         a,
         b,
@@ -72,17 +72,17 @@ pub fn read_file(
         return FileRead::Refused(day_rows::refusal_of(head, Refusal::RowForm(2)));
     };
     let n = a as usize;
-    let trains = day_sections::read_trains(l, text, next, c, n, numbers, first, last);
+    let trains = day_trains::read_trains(l, text, next, c, n, numbers, first, last);
     let at = match trains {
         Step::Next(at) => at,
         Step::Refused(refusal) => return FileRead::Refused(refusal),
     };
-    let moves = day_sections::read_moves(l, text, at, 4 + n, numbers, n, boxes, l.trains);
+    let moves = day_moves::read_moves(l, text, at, 4 + n, numbers, n, boxes, l.trains);
     match moves {
         Step::Next(_) => FileRead::Accepted(Head {
             trains: n,
             tracks: b,
-            slots: day_sections::narrow(c),
+            slots: day_rows::narrow(c),
             revisit: d,
             split: e,
         }),

@@ -11,7 +11,8 @@ use Rattle.dayfile.specs.Reading.{headSection, trainSection}
 use Rattle.day_rows.specs.Steps.{RowTo}
 use Rattle.day_rows.proofs.Tags.{row-refusal}
 use Rattle.day_rows.specs.declared.Step.{Step}
-use Rattle.day_sections.specs.Sections.{TrainsRead, TrainsTo, trains-into, moves-into}
+use Rattle.day_trains.specs.Trains.{TrainsRead, TrainsTo, trains-into}
+use Rattle.day_moves.specs.Moves.{moves-into}
 use Rattle.dayread.specs.Whole.{HeadLimits, head-limits, head-stops, trains-stop, moves-stop, day-read}
 use borrow.Author.Needs.{needs}
 use Rattle.dayread.proofs.read_file.Statement.{statement}

@@ -1,10 +1,10 @@
--- `day_sections::read_head` meets its contract. A section is its names line, then its row.
+-- `day_trains::read_head` meets its contract. A section is its names line, then its row.
 -- Assumes nothing.
 use Rattle.dayfile.specs.Reading.{headNames}
-use Rattle.day_sections.specs.Sections.{section-stops}
+use Rattle.day_rows.specs.Joined.{section-stops}
 use borrow.Author.Needs.{needs}
-use Rattle.day_sections.proofs.read_head.Statement.{statement}
-use Rattle.day_sections.proofs.read_head.Tie as tie
+use Rattle.day_trains.proofs.read_head.Statement.{statement}
+use Rattle.day_trains.proofs.read_head.Tie as tie
 
 slice-aggregate-read-names : tie.Need-slice-aggregate-read-names
 slice-aggregate-read-names c = search needs

@@ -1,4 +1,4 @@
--- `day_sections::read_train_rows` meets its contract. The invariant is `TrainsSoFar`: i rows are read and stored, the reading goes on at p.
+-- `day_trains::read_train_rows` meets its contract. The invariant is `TrainsSoFar`: i rows are read and stored, the reading goes on at p.
 -- Assumes nothing.
 use native.Mathlib.Omega.{arith}
 use Prim.Native.Nat.{_≤_, _-_, _+_}
@@ -7,10 +7,10 @@ use Rattle.day_rows.specs.Steps.{RowTo}
 use mathlib.Core.Path.{_≡_, _∙_}
 use lib.ListN.{length, drop, length-set}
 use borrow.Author.Needs.{needs}
-use Rattle.day_sections.specs.Sections.{TrainsSoFar, trains-start, train-window, trains-refused, trains-next, trains-end}
+use Rattle.day_trains.specs.Trains.{TrainsSoFar, trains-start, train-window, trains-refused, trains-next, trains-end}
 use Rattle.day_rows.proofs.Tags.{row-refusal}
-use Rattle.day_sections.proofs.read_train_rows.Statement.{statement}
-use Rattle.day_sections.proofs.read_train_rows.Tie as tie
+use Rattle.day_trains.proofs.read_train_rows.Statement.{statement}
+use Rattle.day_trains.proofs.read_train_rows.Tie as tie
 
 abbrev Inv-loop : tie.InvT-loop
 Inv-loop l text at slots n numbers₀ first₀ last₀ p₀ before₀ i₀ numbers first last p before i = TrainsSoFar l slots n text (drop at text) numbers₀ first₀ last₀ numbers first last i p before × ((i ≤ n) × ((length numbers ≡ length numbers₀) × ((length first ≡ length first₀) × (length last ≡ length last₀))))

@@ -1,4 +1,4 @@
-// The sections of a day file (document 01): a names line and its row or rows, read into columns and a table that the caller lends.
+// The moves of a day file (document 01), read into a table of boxes that the caller lends.
 //
 // Proved: each function answers and leaves what dayfile's Reading.antt says of the section at its place, for any limits. Each takes the
 // good answer of a line apart, else hands the refusal up. Assumes nothing.
@@ -7,81 +7,12 @@ ghost use mathlib.Core.List.{[], _∷_};
 ghost use Prim.Native.Nat.{_≤_, _<_, _+_, _*_};
 ghost use lib.ListN.{length, take, drop, set};
 ghost use Rattle.model.specs.Cells.{InTable};
-ghost use Rattle.dayfile.specs.Reading.{readTrains, readMoves, headSection, trainSection, moveSection};
-ghost use Rattle.day_rows.specs.Steps.{ReadsRow};
-ghost use Rattle.day_sections.specs.Sections.{TrainsTo, MovesTo};
+ghost use Rattle.dayfile.specs.Reading.{readMoves, moveSection};
+ghost use Rattle.day_moves.specs.Moves.{MovesTo};
 use day::Limits;
 use day::Refusal;
 use day_rows::Step;
 use lines::Line;
-
-// A value that is known to fit a byte.
-pub fn narrow(x: u32) -> u8
-    requires { ⌜ x ≤ 255 ⌝ }
-    ensures { λ r. ⌜ r ≡ x ⌝ }
-{
-    x as u8
-}
-
-// Reads the rows of n trains into three columns.
-fn read_train_rows(
-    l: Limits,
-    text: &[u8],
-    at: usize,
-    slots: u32,
-    n: usize,
-    numbers: &mut [u32],
-    first: &mut [u8],
-    last: &mut [u8],
-) -> Step
-    requires { ⌜ (at ≤ length (now text)) × ((slots ≤ 255) × ((n ≤ length (now numbers)) × ((n ≤ length (now first)) × (n ≤ length (now last))))) ⌝ }
-    ensures { λ r. ⌜ TrainsTo l slots n (now (text .entry)) (readTrains l slots n 0 4 (drop at (now (text .entry)))) (now (numbers .entry)) (now (first .entry)) (now (last .entry)) (now (numbers .exit)) (now (first .exit)) (now (last .exit)) r ⌝ }
-{
-    let mut p = at;
-    let mut before: u32 = 0;
-    for i in 0..n {
-        let line = 4 + i;
-        let row = day_rows::read_train(l, text, p, line, slots, before);
-        let Line::Row {
-            a,
-            b,
-            c,
-            d: _,
-            e: _,
-            next,
-        } = row
-        else {
-            return Step::Refused(day_rows::refusal_of(row, Refusal::RowForm(line)));
-        };
-        numbers[i] = a;
-        first[i] = narrow(b);
-        last[i] = narrow(c);
-        before = a;
-        p = next;
-    }
-    Step::Next(p)
-}
-
-// Reads the section of n trains.
-pub fn read_trains(
-    l: Limits,
-    text: &[u8],
-    at: usize,
-    slots: u32,
-    n: usize,
-    numbers: &mut [u32],
-    first: &mut [u8],
-    last: &mut [u8],
-) -> Step
-    requires { ⌜ (slots ≤ 255) × ((n ≤ length (now numbers)) × ((n ≤ length (now first)) × (n ≤ length (now last)))) ⌝ }
-    ensures { λ r. ⌜ TrainsTo l slots n (now (text .entry)) (trainSection l slots n (drop at (now (text .entry)))) (now (numbers .entry)) (now (first .entry)) (now (last .entry)) (now (numbers .exit)) (now (first .exit)) (now (last .exit)) r ⌝ }
-{
-    let names = day_rows::read_names(text, at, 3, &dayfile::TRAIN_NAMES);
-    let Step::Next(next) = names else {
-        return names;
-    };
-    read_train_rows(l, text, next, slots, n, numbers, first, last)
-}
 
 // Puts x at the entry (i, j) of a square table that is stored row after row.
 fn put_cell(table: &mut [u8], width: usize, i: usize, j: usize, x: u8)
@@ -128,7 +59,7 @@ fn read_move_rows(
         };
         let i = day_rows::position_of(numbers, n, a);
         let j = day_rows::position_of(numbers, n, b);
-        put_cell(boxes, width, i, j, narrow(c));
+        put_cell(boxes, width, i, j, day_rows::narrow(c));
         to = a;
         from = b;
         p = next;
@@ -155,15 +86,4 @@ pub fn read_moves(
         return names;
     };
     read_move_rows(l, text, next, line + 1, numbers, n, boxes, width)
-}
-
-// Reads the first section.
-pub fn read_head(l: Limits, text: &[u8]) -> Line
-    ensures { λ r. ⌜ ReadsRow 4 (now (text .entry)) (headSection l (now (text .entry))) r ⌝ }
-{
-    let names = day_rows::read_names(text, 0, 1, &dayfile::HEAD_NAMES);
-    match names {
-        Step::Next(next) => day_rows::read_head_row(l, text, next),
-        Step::Refused(refusal) => Line::Refused(refusal),
-    }
 }

@@ -1,10 +1,10 @@
--- `day_sections::put_cell` meets its contract. The place lies in the table, by `cell-index`.
+-- `day_moves::put_cell` meets its contract. The place lies in the table, by `cell-index`.
 -- Assumes nothing.
 use native.Mathlib.Omega.{arith}
 use Rattle.model.specs.Cells.{cell-index}
 use borrow.Author.Needs.{needs}
-use Rattle.day_sections.proofs.put_cell.Statement.{statement}
-use Rattle.day_sections.proofs.put_cell.Tie as tie
+use Rattle.day_moves.proofs.put_cell.Statement.{statement}
+use Rattle.day_moves.proofs.put_cell.Tie as tie
 
 mul-at : tie.Need-mul-at
 mul-at c = omega (arith, cell-index (c .pre))

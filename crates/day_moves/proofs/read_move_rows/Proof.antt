@@ -1,4 +1,4 @@
--- `day_sections::read_move_rows` meets its contract. The invariant is `MovesSoFar`: the rows so far are stored, the reading goes on at p.
+-- `day_moves::read_move_rows` meets its contract. The invariant is `MovesSoFar`: the rows so far are stored, the reading goes on at p.
 -- Assumes nothing.
 use mathlib.Core.Path.{_≡_, refl, _∙_}
 use mathlib.Core.List.{List, [], _∷_}
@@ -11,10 +11,10 @@ use mir.Syntax.{w8}
 use mir.Val.{Fits}
 use Rattle.dayfile.specs.Reading.{position, moveChecks, readRow}
 use Rattle.day_rows.specs.Steps.{RowTo}
-use Rattle.day_sections.specs.Sections.{MovesSoFar, MoveRow, move-row, moves-start, moves-refused, moves-done, moves-next}
+use Rattle.day_moves.specs.Moves.{MovesSoFar, MoveRow, move-row, moves-start, moves-refused, moves-done, moves-next}
 use Rattle.day_rows.proofs.Tags.{move-refusal}
-use Rattle.day_sections.proofs.read_move_rows.Statement.{statement}
-use Rattle.day_sections.proofs.read_move_rows.Tie as tie
+use Rattle.day_moves.proofs.read_move_rows.Statement.{statement}
+use Rattle.day_moves.proofs.read_move_rows.Tie as tie
 
 abbrev Inv-loop : tie.InvT-loop
 Inv-loop l text at start numbers n boxes₀ width p₀ line₀ to₀ from₀ boxes p line to from = MovesSoFar l (take n numbers) width start at text boxes₀ boxes p line to from × (length boxes ≡ length boxes₀)
