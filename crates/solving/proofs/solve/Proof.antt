@@ -8,8 +8,8 @@ use lib.ListN.{length}
 use Rattle.optimum.specs.Layers.{solved-here, solved-then, solved-some}
 use Rattle.staging.specs.Tables.{tablesOf}
 use Rattle.staging.specs.Reachable.{Reachable}
-use Rattle.solving.specs.Given.{Later, SolvedFrom}
-use Rattle.solving.specs.Laws.{later-last, later-next}
+use Rattle.slot_filling.specs.Given.{Later, SolvedFrom}
+use Rattle.slot_filling.specs.Laws.{later-last, later-next}
 use Rattle.solving.proofs.solve.Statement.{statement}
 use Rattle.solving.proofs.solve.Tie as tie
 

@@ -1,4 +1,4 @@
--- `solving::fill_last` meets its contract. The loop's invariant: optimum's `Stage`, set by set from the largest.
+-- `slot_filling::fill_last` meets its contract. The loop's invariant: optimum's `Stage`, set by set from the largest.
 -- Assumes nothing.
 use Prim.Native.Nat.{_+_, _-_, _*_, _≤_, _<_, suc}
 use mathlib.Core.Path.{_≡_, refl, ap, _∙_}
@@ -8,9 +8,9 @@ use Rattle.optimum.specs.Stages.{tab, choice}
 use Rattle.optimum.specs.Layers.{Every, Stage, stage-last, stage-next, stage-end}
 use Rattle.staging.specs.Tables.{Tables, tablesOf, noCost, fromTables, keyFromTables}
 use Rattle.cells.specs.Given.{given-less}
-use Rattle.solving.specs.Laws.{choice-place}
-use Rattle.solving.proofs.fill_last.Statement.{statement}
-use Rattle.solving.proofs.fill_last.Tie as tie
+use Rattle.slot_filling.specs.Laws.{choice-place}
+use Rattle.slot_filling.proofs.fill_last.Statement.{statement}
+use Rattle.slot_filling.proofs.fill_last.Tie as tie
 
 abbrev Inv-loop : tie.InvT-loop
 Inv-loop cost₀ choice₀ need late price opens slots size j r₀ cost choice r =

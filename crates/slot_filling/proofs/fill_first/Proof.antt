@@ -1,4 +1,4 @@
--- `solving::fill_first` meets its contract. The cell of all trains is the first slot's; no other set can remain before it.
+-- `slot_filling::fill_first` meets its contract. The cell of all trains is the first slot's; no other set can remain before it.
 -- Assumes nothing.
 use Prim.Native.Nat.{_-_, _<_, suc}
 use mathlib.Core.Path.{_≡_, refl, ap, _∙_}
@@ -9,9 +9,9 @@ use Rattle.optimum.specs.Layers.{Table, table-cell, stage-start, stage-next, st
 use Rattle.staging.specs.Tables.{Tables, tablesOf, noCost, fromTables, keyFromTables}
 use Rattle.staging.specs.Reachable.{Reachable, reachable-all}
 use Rattle.cells.specs.Given.{given-less}
-use Rattle.solving.specs.Laws.{leaves-reachable, table-rests, choice-place}
-use Rattle.solving.proofs.fill_first.Statement.{statement}
-use Rattle.solving.proofs.fill_first.Tie as tie
+use Rattle.slot_filling.specs.Laws.{leaves-reachable, table-rests, choice-place}
+use Rattle.slot_filling.proofs.fill_first.Statement.{statement}
+use Rattle.slot_filling.proofs.fill_first.Tie as tie
 
 abbrev given : tie.Start → Tables
 given s = let z = s .args in tablesOf (z .need .now) (z .late .now) (z .price .now) (z .opens .now)

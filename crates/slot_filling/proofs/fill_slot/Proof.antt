@@ -1,4 +1,4 @@
--- `solving::fill_slot` meets its contract. The loop's invariant: optimum's `Stage`, set by set from the largest, and below the sets that are
+-- `slot_filling::fill_slot` meets its contract. The loop's invariant: optimum's `Stage`, set by set from the largest, and below the sets that are
 -- done the next slot's table, which the cells read.
 -- Assumes nothing.
 use Prim.Native.Nat.{_+_, _-_, _*_, _^_, _≤_, _<_, suc}
@@ -13,9 +13,9 @@ use Rattle.optimum.specs.Layers.{Table, Stage, table-cell, table-put, table-les
 use Rattle.staging.specs.Tables.{Tables, tablesOf, noCost, fromTables, keyFromTables}
 use Rattle.staging.specs.Reachable.{Reachable}
 use Rattle.cells.specs.Given.{given-less}
-use Rattle.solving.specs.Laws.{leaves-reachable, table-rests, choice-place, hopeless-cell, same-pick}
-use Rattle.solving.proofs.fill_slot.Statement.{statement}
-use Rattle.solving.proofs.fill_slot.Tie as tie
+use Rattle.slot_filling.specs.Laws.{leaves-reachable, table-rests, choice-place, hopeless-cell, same-pick}
+use Rattle.slot_filling.proofs.fill_slot.Statement.{statement}
+use Rattle.slot_filling.proofs.fill_slot.Tie as tie
 
 abbrev Inv-loop : tie.InvT-loop
 Inv-loop cost₀ choice₀ need late price opens tracks later j slots size room gone all r₀ cost choice r =

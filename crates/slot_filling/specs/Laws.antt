@@ -25,7 +25,7 @@ use Rattle.staging.specs.Reachable.{Reachable, reachable-next}
 use Rattle.cells.specs.declared.Pick.{Pick}
 use Rattle.cells.specs.Given.{Given, Rests}
 use Rattle.cells.specs.Laws.{serve-open, serve-priced, served-fits}
-use Rattle.solving.specs.Given.{Room, Later}
+use Rattle.slot_filling.specs.Given.{Room, Later}
 
 module _ {size slots : ℕ} {x : Tables} (g : Given size slots x) where
   -- where no set that may be served has more trains than tracks, a choice from what can remain leaves what can remain
