@@ -27,7 +27,8 @@ use Rattle.planning.specs.Planning.{costWords, choiceWords, planned, begins, op
 use Rattle.planning.specs.Answers.{from-best, refuses-only, planned-only}
 use Rattle.procedures.specs.Procedures.{leftOver}
 use Rattle.procedures.specs.Complete.{first-allowed, myopic-allowed}
-use Rattle.baselines.specs.Baselines.{Comparison, comparisonOrZero, rowBy, servedChecks, against, compared, openCosts, openChoices}
+use Rattle.comparing.specs.Comparing.{Comparison, comparisonOrZero, servedChecks, against}
+use Rattle.baselines.specs.Baselines.{rowBy, compared, openCosts, openChoices}
 use Rattle.baselines.specs.declared.Procedure.{Procedure}
 use Rattle.baselines.specs.declared.Procedure.the-variants.{FirstCome, Myopic}
 

@@ -5,61 +5,24 @@
 // zeros beside a refusal; of the two areas only the words that planning needs may change. specs/Savings.antt: no saving is below zero.
 // Assumes nothing.
 ghost use mathlib.Core.Path.{_≡_};
-ghost use Prim.Native.Nat.{_^_, _≤_, _<_};
+ghost use Prim.Native.Nat.{_^_, _<_};
 ghost use lib.Dec.{T};
 ghost use lib.ListN.{length, replicate};
-ghost use Rattle.day.specs.Answer.{refusal, judged};
+ghost use Rattle.day.specs.Answer.{judged};
 ghost use Rattle.day.specs.Sound.{dayLimits, yard, sound};
 ghost use Rattle.planning.specs.Planning.{answer as planAnswer, planned, Stays};
 ghost use Rattle.procedures.specs.Procedures.{firstCome, myopic};
-ghost use Rattle.baselines.specs.Baselines.{comparisonOf, comparisonOrZero, rowBy, against, compared, openCosts, openChoices};
-ghost use Rattle.baselines.specs.Laws.{Says};
-use counting::Value;
+ghost use Rattle.comparing.specs.Comparing.{comparisonOf, comparisonOrZero, against};
+ghost use Rattle.baselines.specs.Baselines.{rowBy, compared, openCosts, openChoices};
+ghost use Rattle.comparing.specs.Comparing.{Says};
+use comparing::Baseline;
 use day::Day;
-use day::Refusal;
-use day::Verdict;
 use planning::Planned;
 
 // The procedures that planning is compared with.
 pub enum Procedure {
     FirstCome,
     Myopic,
-}
-
-// The three numbers of a procedure's row, and the saving, its cost less the planned cost; zeros with a refusal.
-pub struct Baseline {
-    pub verdict: Verdict,
-    pub value: Value,
-    pub saving: i64,
-}
-
-fn refused(given: Refusal) -> Baseline
-    ensures { λ r. ⌜ Says (refusal given) r ⌝ }
-{
-    Baseline {
-        verdict: Verdict::Refused(given),
-        value: counting::zero_value(),
-        saving: 0,
-    }
-}
-
-// Compares a row of a sound day with the planned cost: 14 where it leaves a train without a slot.
-fn compare(day: Day, row: &[u8], best: u64) -> Baseline
-    requires { ⌜ T (sound dayLimits (yard day)) × (day .trains ≤ length (now row)) × (best < 2 ^ 63) ⌝ }
-    ensures { λ r. ⌜ Says (against (yard day) (now (row .entry)) best) r ⌝ }
-{
-    let n = day.trains;
-    let left = procedures::left_over(row, n);
-    if left < n {
-        return refused(Refusal::WithoutSlot(left + 1));
-    }
-    let boxes = day.boxes;
-    let value = counting::value_slots(&boxes, 12, row, n, day.revisit, day.split);
-    Baseline {
-        verdict: Verdict::Accepted,
-        value: value,
-        saving: procedures::saving_of(value.cost, best),
-    }
 }
 
 // Plans a day for its cost alone: the row is local, and long enough for every sound day.
@@ -109,7 +72,7 @@ fn compare_with(procedure: Procedure, day: Day, best: u64) -> Baseline
     let n = day.trains;
     let mut row = [0u8; 12];
     fill_row(procedure, day, &mut row[..n]);
-    compare(day, &row[..n], best)
+    comparing::compare(day, &row[..n], best)
 }
 
 // A procedure against the best plan. `cost` needs 2^n words, `choice` T × 2^n words: else 10.
@@ -121,7 +84,7 @@ pub fn measure(procedure: Procedure, day: Day, cost: &mut [u64], choice: &mut [u
 {
     match plan_cost(day, cost, choice) {
         Planned::Plan(best) => compare_with(procedure, day, best.cost),
-        Planned::Refused(refusal) => refused(refusal),
+        Planned::Refused(refusal) => comparing::refused(refusal),
     }
 }
 

@@ -18,7 +18,8 @@ use Rattle.day.specs.declared.Day.{Day}
 use Rattle.counting.specs.Counting.{same-figures}
 use Rattle.valuing.specs.Valuing.{valued}
 use Rattle.planning.specs.Planning.{planned}
-use Rattle.baselines.specs.Baselines.{Comparison, compared}
+use Rattle.comparing.specs.Comparing.{Comparison}
+use Rattle.baselines.specs.Baselines.{compared}
 
 -- ---- what a line says
 

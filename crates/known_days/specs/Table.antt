@@ -26,7 +26,8 @@ use Rattle.counting.specs.Counting.{figures}
 use Rattle.valuing.specs.Valuing.{valued, strays, overfull}
 use Rattle.planning.specs.Planning.{planned}
 use Rattle.procedures.specs.Procedures.{trackFree, waits, suits, earliest, comeTo, firstCome, waitingSupplier, priority, select, fillTo, servedTo, myopic}
-use Rattle.baselines.specs.Baselines.{Comparison, against, compared}
+use Rattle.comparing.specs.Comparing.{Comparison, against}
+use Rattle.baselines.specs.Baselines.{compared}
 use Rattle.known_days.specs.Lines.{Line, values, best, later, refused, accepted, plans, compares, comparesIn, Holds, sameOutcome, sameInt, sameComparison, sameAnswer, isRow, isNone, isInterval, passes, line-holds}
 use Rattle.known_days.specs.Days.{move, dayOf, openDay, paperDay, numbered}
 

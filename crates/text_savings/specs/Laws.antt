@@ -13,8 +13,9 @@ use Rattle.day.specs.declared.Limits.{Limits}
 use Rattle.day.specs.declared.Refusal.{Refusal}
 use Rattle.dayfile.specs.Reading.{readDay}
 use Rattle.planning.specs.Planning.{costArea, choiceArea}
-use Rattle.baselines.specs.Baselines.{Comparison, comparisonOf, comparisonOrZero, compared}
-use Rattle.baselines.specs.declared.Baseline.{Baseline}
+use Rattle.comparing.specs.Comparing.{Comparison, comparisonOf, comparisonOrZero}
+use Rattle.baselines.specs.Baselines.{compared}
+use Rattle.comparing.specs.declared.Baseline.{Baseline}
 use Rattle.telling.specs.Telling.{three, numbersAfter}
 use Rattle.telling.specs.Laws.{Told, none-told}
 use Rattle.text_savings.specs.TextSavings.{compareText, outcomes}

@@ -6,7 +6,8 @@ use Rattle.model.specs.Model.{Yard, Outcome}
 use Rattle.day.specs.Answer.{Answer, gives, refuses}
 use Rattle.day.specs.declared.Limits.{Limits}
 use Rattle.planning.specs.Planning.{costArea, choiceArea}
-use Rattle.baselines.specs.Baselines.{Comparison, compared}
+use Rattle.comparing.specs.Comparing.{Comparison}
+use Rattle.baselines.specs.Baselines.{compared}
 use Rattle.telling.specs.Telling.{forDay}
 
 unfoldable pub compareText : (Yard → List ℕ) → Limits → List ℕ → ℕ → Answer Comparison

@@ -7,12 +7,13 @@ ghost use lib.ListN.{length};
 ghost use Rattle.day.specs.Answer.{code, judged};
 ghost use Rattle.day.specs.Sound.{dayLimits, yard};
 ghost use Rattle.planning.specs.Planning.{costArea, choiceArea};
-ghost use Rattle.baselines.specs.Baselines.{comparisonOf, comparisonOrZero, rowBy, compared};
+ghost use Rattle.comparing.specs.Comparing.{comparisonOf, comparisonOrZero};
+ghost use Rattle.baselines.specs.Baselines.{rowBy, compared};
 ghost use Rattle.telling.specs.Telling.{numbersAfter};
 ghost use Rattle.text_savings.specs.TextSavings.{compareText, outcomes};
 ghost use Rattle.text_savings.specs.Laws.{ToldSaving};
-use baselines::Baseline;
 use baselines::Procedure;
+use comparing::Baseline;
 use day::Day;
 use day::Verdict;
 

@@ -34,7 +34,8 @@ use Rattle.valuing.specs.Valuing.{valued}
 use Rattle.valuing.specs.Laws.{valued-only, valued-allowed, allowed-valued}
 use Rattle.planning.specs.Planning.{costArea, choiceArea, planned}
 use Rattle.planning.specs.Answers.{areas-suffice, planned-only, from-best}
-use Rattle.baselines.specs.Baselines.{Comparison, compared}
+use Rattle.comparing.specs.Comparing.{Comparison}
+use Rattle.baselines.specs.Baselines.{compared}
 use Rattle.baselines.specs.Savings.{compared-only}
 use Rattle.telling.specs.Telling.{dayFor, forDay}
 use Rattle.telling.specs.Laws.{no-room, with-room}

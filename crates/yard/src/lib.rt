@@ -10,7 +10,7 @@ ghost use Rattle.day.specs.Sound.{dayLimits};
 ghost use Rattle.dayfile.specs.Reading.{readDay};
 ghost use Rattle.answering.specs.Answering.{answerWrites, answerLeaves};
 ghost use Rattle.procedures.specs.Procedures.{firstCome, myopic};
-ghost use Rattle.baselines.specs.Baselines.{comparisonOrZero};
+ghost use Rattle.comparing.specs.Comparing.{comparisonOrZero};
 ghost use Rattle.planning.specs.Planning.{costWords, choiceWords, costArea, choiceArea, Stays};
 ghost use Rattle.telling.specs.Telling.{numbersAfter};
 ghost use Rattle.text_plan.specs.TextPlan.{planFor, rowFor, openFor, slotsFor};

@@ -8,8 +8,9 @@ use lib.Seq.{length-take-le}
 use Rattle.fold.specs.Listed.{take-front}
 use Rattle.day.specs.Sound.{dayLimits, yard}
 use Rattle.day.specs.SoundLaws.{sound-is}
-use Rattle.baselines.specs.Baselines.{against}
-use Rattle.baselines.specs.Laws.{Says, zeros, zeros-front, front-long, front-fits}
+use Rattle.comparing.specs.Comparing.{against}
+use Rattle.comparing.specs.Comparing.{Says}
+use Rattle.baselines.specs.Laws.{zeros, zeros-front, front-long, front-fits}
 use Rattle.baselines.proofs.compare_with.Statement.{statement}
 use Rattle.baselines.proofs.compare_with.Tie as tie
 

@@ -8,7 +8,8 @@ use Rattle.counting.specs.Counting.{outcomeOf}
 use Rattle.planning.specs.Planning.{answer as planAnswer, planned}
 use Rattle.planning.specs.Answers.{from-best}
 use Rattle.baselines.specs.Baselines.{rowBy}
-use Rattle.baselines.specs.Laws.{cost-fits, says-against, says-refused}
+use Rattle.comparing.specs.Laws.{cost-fits}
+use Rattle.baselines.specs.Laws.{says-against, says-refused}
 use borrow.Author.Needs.{needs}
 use Rattle.baselines.proofs.measure.Statement.{statement}
 use Rattle.baselines.proofs.measure.Tie as tie

@@ -1,7 +1,7 @@
 -- `text_savings::compare_day` meets its contract: the comparison is told.
 -- Assumes nothing.
 use mathlib.Core.Path.{sym, ap, _∙_, subst}
-use Rattle.baselines.specs.Baselines.{comparisonOrZero}
+use Rattle.comparing.specs.Comparing.{comparisonOrZero}
 use Rattle.text_savings.specs.Laws.{ToldSaving}
 use borrow.Author.Needs.{needs}
 use Rattle.text_savings.proofs.compare_day.Statement.{statement}

@@ -5,7 +5,7 @@ use mir.Facts.{toZ-ofZ}
 use mir.Syntax.{w64}
 use mir.Val.{SFits}
 use Rattle.day.specs.Answer.{judged}
-use Rattle.baselines.specs.Baselines.{comparisonOf}
+use Rattle.comparing.specs.Comparing.{comparisonOf}
 use Rattle.text_savings.specs.TextSavings.{outcomes}
 use Rattle.telling.specs.Laws.{told-values, told-same}
 use Rattle.text_savings.specs.Laws.{told-baseline}

@@ -1,4 +1,4 @@
--- `baselines::compare` meets its contract: 14 where a train is left over, else the row's numbers, of which the cost fits.
+-- `comparing::compare` meets its contract: 14 where a train is left over, else the row's numbers, of which the cost fits.
 -- Assumes nothing.
 use mathlib.Core.Path.{_≡_, _∙_}
 use native.Mathlib.Omega.{arith}
@@ -9,10 +9,10 @@ use mir.Val.{SFits}
 use denote.Ref.{now}
 use Rattle.day.specs.Sound.{dayLimits, yard}
 use Rattle.day.specs.SoundLaws.{sound-is}
-use Rattle.baselines.specs.Laws.{says-left, says-complete, cost-fits}
+use Rattle.comparing.specs.Laws.{says-left, says-complete, cost-fits}
 use borrow.Author.Needs.{needs}
-use Rattle.baselines.proofs.compare.Statement.{statement}
-use Rattle.baselines.proofs.compare.Tie as tie
+use Rattle.comparing.proofs.compare.Statement.{statement}
+use Rattle.comparing.proofs.compare.Tie as tie
 
 left-over-requires : tie.Need-left-over-requires
 left-over-requires c κs = search needs

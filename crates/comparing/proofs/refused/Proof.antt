@@ -1,11 +1,11 @@
--- `baselines::refused` meets its contract: zeros beside the refusal.
+-- `comparing::refused` meets its contract: zeros beside the refusal.
 -- Assumes nothing.
 use mathlib.Core.Path.{refl, ap}
 use lib.IntN.{pos}
 use Rattle.model.specs.Model.{Outcome}
 use borrow.Author.Needs.{needs}
-use Rattle.baselines.proofs.refused.Statement.{statement}
-use Rattle.baselines.proofs.refused.Tie as tie
+use Rattle.comparing.proofs.refused.Statement.{statement}
+use Rattle.comparing.proofs.refused.Tie as tie
 
 zero-value-requires : tie.Need-zero-value-requires
 zero-value-requires c κs = search needs
