@@ -2,32 +2,33 @@
 -- values, and on 9 two lines with the interval and its trains. This file is what a reader must believe of the program.
 -- Assumes nothing.
 use mathlib.Core.List.{List, [], _∷_, _++_}
-use mathlib.Core.Option.{Option, none, some}
+use mathlib.Core.Option.{Option}
 use Prim.Native.Nat.{ℕ}
 use lib.ListN.{length}
 use Rattle.model.specs.Model.{Yard}
 use Rattle.model.specs.BestOf.{bestOf}
-use Rattle.model.specs.Overbooked.{firstOverbooked}
 use Rattle.day.specs.Answer.{Answer, gives, refuses}
 use Rattle.day.specs.declared.Limits.{Limits}
 use Rattle.output.specs.Output.{writes, leaves}
 use Rattle.output.specs.Laws.{Filled, filled}
 use Rattle.dayfile.specs.Reading.{readDay}
 use Rattle.refusal_text.specs.RefusalText.{refusalText}
-use Rattle.planning.specs.Planning.{carriedBy}
+use Rattle.planning.specs.Planning.{bestRow}
 use Rattle.planfile.specs.PlanText.{planText}
 
--- ---- a sound day: the plan file of its best row, or 9 with the first overbooked interval
+-- ---- what is printed for an answer: by what it gives, or the two lines of the refusal
 
+abbrev pub replyBy : {X : Type 0} → (X → List ℕ) → Answer X → List ℕ
+replyBy print (gives x) = print x
+replyBy print (refuses k carries) = refusalText k carries
+
+-- a sound day: the plan file of its best row, or planning's refusal
 abbrev pub dayReply : Yard → Option (List ℕ) → List ℕ
-dayReply y (some row) = planText y row
-dayReply y none = refusalText 9 (carriedBy y (firstOverbooked y))
+dayReply y best = replyBy (planText y) (bestRow y best)
 
--- ---- a text
-
+-- a text: the reply to its day, or reading's refusal
 abbrev pub reply : Answer Yard → List ℕ
-reply (gives y) = dayReply y (bestOf y)
-reply (refuses k carries) = refusalText k carries
+reply = replyBy λ y. dayReply y (bestOf y)
 
 unfoldable pub answerText : Limits → List ℕ → List ℕ
 answerText l text = reply (readDay l text)

@@ -38,7 +38,7 @@ fn places(tracks: u32, a: u8, b: u8) -> u64
 
 // Of the intervals with more trains bound inside than places, the one with the smallest first slot, and for it the smallest last
 // slot: the loops pass the intervals in this order, so the first one found is the one to name. On a day whose windows lie in its slots
-// a row is allowed exactly where none is found (specs/RowOrNone.antt).
+// a row fits exactly where none is found (specs/RowOrNone.antt).
 pub fn first_overbooked(first: &[u8], last: &[u8], n: usize, tracks: u32, slots: u8) -> Overbooked
     requires { ⌜ (n ≤ length (now first)) × (n ≤ length (now last)) ⌝ }
     ensures { λ r. ⌜ Finds (windowsOnly n tracks slots (now (first .entry)) (now (last .entry))) r ⌝ }

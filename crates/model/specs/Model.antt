@@ -109,9 +109,9 @@ inSlots slots row i = leb 1 (slotOf row i) && leb (slotOf row i) slots
 unfoldable pub inTime : List ℕ → List ℕ → ℕ → ℕ → Bool
 inTime first last i t = leb (getD first i 0) t && leb t (getD last i 0)
 
--- e ≤ slot ≤ l at position i, (12)
+-- the window of position i holds its slot, (12)
 unfoldable pub inWindow : List ℕ → List ℕ → List ℕ → ℕ → Bool
-inWindow first last row i = leb (getD first i 0) (slotOf row i) && leb (slotOf row i) (getD last i 0)
+inWindow first last row i = inTime first last i (slotOf row i)
 
 -- the number of trains in slot t, the left side of (3)
 unfoldable pub load : ℕ → List ℕ → ℕ → ℕ

@@ -12,7 +12,7 @@ use lib.ListN.{length}
 use borrow.Author.Tests.{eq-eqb}
 use Rattle.fold.specs.Test.{of-true, both, both-of}
 use Rattle.fold.specs.Fold.{each, each-at, each-i}
-use Rattle.model.specs.Model.{Yard, firstSlot, lastSlot, slotOf, inSlots, inWindow, load, roomy, fitting, allowed}
+use Rattle.model.specs.Model.{Yard, firstSlot, lastSlot, slotOf, inSlots, inTime, inWindow, load, roomy, fitting, allowed}
 
 -- ---- what the test of a fitting row says
 
@@ -56,7 +56,7 @@ module _ (y : Yard) (row : List ℕ) where
   tests-fitting a b inside room = both (long && slotted && windowed) spacious (both (long && slotted) windowed (both long slotted a b) inside) room
 
   pub fitting-is : T (fitting y row) → Fitting y row
-  unfolding inSlots inWindow roomy
+  unfolding inSlots inTime inWindow roomy
   fitting-is t =
       let (a, b, inside, room) = fitting-tests t in
       record {
@@ -67,7 +67,7 @@ module _ (y : Yard) (row : List ℕ) where
       }
 
   pub is-fitting : Fitting y row → T (fitting y row)
-  unfolding inSlots inWindow roomy
+  unfolding inSlots inTime inWindow roomy
   is-fitting a =
       tests-fitting (of-true (eq-eqb (length row) (y .trains) (a .long)))
       (each-i (y .trains) (inSlots (y .slots) row) (λ i h. le-both 1 (slotOf row i) (slotOf row i) (y .slots) (a .slotted i h)))

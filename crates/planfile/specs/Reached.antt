@@ -11,7 +11,7 @@ use Rattle.fold.specs.Fold.{sum, count, some, each, each-at}
 use Rattle.fold.specs.Sums.{sum-ext}
 use Rattle.fold.specs.Listed.{listed}
 use Rattle.counting.specs.Counting.{figures}
-use Rattle.model.specs.Model.{Yard, Outcome, slotOf, outcome, lateSupplier, revisiting, revisits, splitBoxes, splitsTo, splits, weighed, inSlots, inWindow, load, roomy, fitting, allowed}
+use Rattle.model.specs.Model.{Yard, Outcome, slotOf, outcome, lateSupplier, revisiting, revisits, splitBoxes, splitsTo, splits, weighed, inSlots, inTime, inWindow, load, roomy, fitting, allowed}
 use Rattle.day.specs.Sound.{dayLimits, Range, range, within, headRanges, trainRanges, numberBefore, trainSound, unused, positionSound, pairSound, receiverSound, shaped, sound}
 use Rattle.day.specs.SoundLaws.{within-is}
 use Rattle.lines.specs.Lines.{rowText, rowsText}
@@ -44,7 +44,7 @@ unfolding packed dearest each within headRanges trainRanges numberBefore trainSo
 dearest-sound = tt
 
 pub packed-allowed : T (allowed dearest packed)
-unfolding packed dearest count each inSlots inWindow load roomy fitting allowed
+unfolding packed dearest count each inSlots inTime inWindow load roomy fitting allowed
 packed-allowed = tt
 
 -- 11 trains come back, and all boxes but those of the four pairs that share a slot are split moves

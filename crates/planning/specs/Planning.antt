@@ -12,7 +12,7 @@ use Rattle.model.specs.Model.{Yard, Outcome, outcome, boundInside}
 use Rattle.model.specs.BestOf.{bestOf}
 use Rattle.model.specs.Overbooked.{Interval, firstOverbooked}
 use Rattle.day.specs.Sound.{sound}
-use Rattle.day.specs.Answer.{Answer, gives, refuses, refusal, Check, must, checked}
+use Rattle.day.specs.Answer.{Answer, gives, refuses, refusal, onGiven, Check, must, checked}
 use Rattle.day.specs.declared.Limits.{Limits}
 use Rattle.counting.specs.Counting.{outcomeOf}
 use Rattle.planning.specs.declared.Planned.{Planned}
@@ -50,9 +50,13 @@ abbrev pub carriedBy : Yard → Option Interval → List ℕ
 carriedBy y (some w) = w .first ∷ w .last ∷ boundInside y (w .first) (w .last) ∷ []
 carriedBy y none = []
 
+-- the best row, or the refusal where there is none
+abbrev pub bestRow : Yard → Option (List ℕ) → Answer (List ℕ)
+bestRow y (some row) = gives row
+bestRow y none = refuses 9 (carriedBy y (firstOverbooked y))
+
 abbrev pub bestAnswer : Yard → Option (List ℕ) → Answer Outcome
-bestAnswer y (some row) = gives (outcome y row)
-bestAnswer y none = refuses 9 (carriedBy y (firstOverbooked y))
+bestAnswer y best = onGiven (bestRow y best) λ row. gives (outcome y row)
 
 abbrev pub planChecks : Limits → Yard → ℕ → ℕ → ℕ → List Check
 planChecks l y costs choices bytes = must (sound l y) 8 (0 ∷ []) ∷ must (suffices y costs choices bytes) 10 (0 ∷ []) ∷ []

@@ -11,7 +11,7 @@ use lib.Dec.{T}
 use lib.ListN.{length}
 use borrow.Author.Tests.{eq-eqb, ne-eqb}
 use Rattle.fold.specs.Fold.{each, each-at, each-i, lowest, each-lowest, lowest-each}
-use Rattle.model.specs.Model.{Yard, slotOf, firstSlot, lastSlot, Outcome, outcome, inSlots, inWindow, roomy, allowed}
+use Rattle.model.specs.Model.{Yard, slotOf, firstSlot, lastSlot, Outcome, outcome, inSlots, inTime, inWindow, roomy, allowed}
 use Rattle.model.specs.Rows
 use Rattle.model.specs.Rows.{windowed, fitting-tests, tests-fitting, allowed-fits, fits-allowed, both-le, le-both}
 use Rattle.day.specs.Sound.{dayFrom, sound}
@@ -106,5 +106,5 @@ module _ (l : Limits) (y : Yard) (row : List ℕ) where
           each-i (y .trains) (inSlots (y .slots) row)
           (λ i h.
           let (a, b, c) = sound-is l y s .windows i h in
-          let (p, q) = both-le (firstSlot y i) (slotOf row i) (slotOf row i) (lastSlot y i) (unfold inWindow in each-at (y .trains) (inWindow (y .first) (y .last) row) w i h) in
+          let (p, q) = both-le (firstSlot y i) (slotOf row i) (slotOf row i) (lastSlot y i) (unfold inTime inWindow in each-at (y .trains) (inWindow (y .first) (y .last) row) w i h) in
           unfold inSlots in le-both 1 (slotOf row i) (slotOf row i) (y .slots) (omega arith, omega arith))

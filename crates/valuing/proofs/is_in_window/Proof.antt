@@ -1,6 +1,6 @@
 -- `valuing::is_in_window` meets its contract. The train's own slot lies in its window.
 -- Assumes nothing.
-use Rattle.model.specs.Model.{inTime, inWindow}
+use Rattle.model.specs.Model.{inWindow}
 use borrow.Author.Needs.{needs}
 use Rattle.valuing.proofs.is_in_window.Statement.{statement}
 use Rattle.valuing.proofs.is_in_window.Tie as tie
@@ -12,7 +12,7 @@ is-in-time-requires : tie.Need-is-in-time-requires
 is-in-time-requires c κs = search needs
 
 returns : tie.Need-returns
-unfolding inWindow inTime
+unfolding inWindow
 returns c = c .is-in-time .ensures
 
 pub is-in-window-spec : {M : Type 1} → statement M
