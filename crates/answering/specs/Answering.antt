@@ -1,7 +1,7 @@
 -- What yard-plan prints for a text (document 01, "The program"): the plan file of the best row; on refusals 1 to 7 two lines, names and
 -- values, and on 9 two lines with the interval and its trains. This file is what a reader must believe of the program.
 -- Assumes nothing.
-use mathlib.Core.List.{List, [], _∷_, _++_}
+use mathlib.Core.List.{List, []}
 use mathlib.Core.Option.{Option}
 use Prim.Native.Nat.{ℕ}
 use lib.ListN.{length}

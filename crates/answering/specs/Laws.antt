@@ -1,13 +1,13 @@
 -- The laws that the proofs of the answer cite: the reply to a sound day from what planning has answered, and the answer to a text from what
 -- reading has.
 -- Assumes nothing.
-use mathlib.Core.Path.{_≡_, refl, sym, ap, _∙_}
+use mathlib.Core.Path.{_≡_, refl, ap, _∙_}
 use mathlib.Core.List.{List, [], _∷_, _++_}
 use mathlib.Core.Option.{Option, none, some}
-use Prim.Native.Nat.{ℕ, _+_, _≤_, zero-le}
+use Prim.Native.Nat.{ℕ, _≤_}
 use native.Mathlib.Omega.{arith}
 use lib.Dec.{T}
-use lib.ListN.{length, getD, drop, length-append, List·getD-append}
+use lib.ListN.{length, getD, drop, List·getD-append}
 use Rattle.fold.specs.Listed.{listed-ext}
 use Rattle.model.specs.Model.{Yard, Outcome, outcome}
 use Rattle.model.specs.BestOf.{bestOf, is-best}

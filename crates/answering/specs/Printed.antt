@@ -9,9 +9,9 @@ use mathlib.Core.List.{List, [], _∷_}
 use mathlib.Core.Option.{Option, none, some}
 use Prim.Native.Nat.{ℕ, _≤_}
 use native.Mathlib.Omega.{arith}
-use Rattle.model.specs.Model.{Yard, Outcome, outcome, Best, NoRow, FirstOverbooked, boundInside}
+use Rattle.model.specs.Model.{Yard, outcome, Best, NoRow, FirstOverbooked, boundInside}
 use Rattle.model.specs.BestOf.{bestOf, is-best, is-none}
-use Rattle.model.specs.Overbooked.{Interval, firstOverbooked, SaysFirst, first-says}
+use Rattle.model.specs.Overbooked.{SaysFirst, first-says}
 use Rattle.day.specs.Answer.{Answer, gives, refuses}
 use Rattle.day.specs.AnswerLaws.{Only}
 use Rattle.day.specs.Sound.{dayLimits}

@@ -4,7 +4,7 @@
 use mathlib.Core.List.{List}
 use Prim.Native.Nat.{ℕ}
 use Rattle.model.specs.Model.{Yard, cost}
-use Rattle.day.specs.Answer.{Answer, gives, onGiven}
+use Rattle.day.specs.Answer.{Answer, onGiven}
 use Rattle.day.specs.declared.Limits.{Limits}
 use Rattle.planning.specs.Planning.{costWords, choiceWords, planned, begins, openWords}
 use Rattle.procedures.specs.Procedures.{firstCome, myopic}

@@ -3,7 +3,6 @@
 -- Assumes nothing.
 use mathlib.Core.Path.{_≡_, refl, sym, ap, ap₂, _∙_, subst}
 use mathlib.Core.Bool.{_&&_}
-use mathlib.Core.List.{List}
 use Prim.Native.Nat.{ℕ, suc, _-_, _^_, _<_}
 use native.Mathlib.Omega.{arith}
 use lib.Bits.{bitAnd}
@@ -13,7 +12,7 @@ use Rattle.fold.specs.Test.{both-of}
 use Rattle.sets.specs.Subset.{Sub, subset, sub-refl}
 use Rattle.optimum.specs.Workspace.{at}
 use Rattle.optimum.specs.Direct.{last-whole}
-use Rattle.staging.specs.Tables.{Tables, barred, noCost, fromTables, costFromTables, keyFromTables}
+use Rattle.staging.specs.Tables.{Tables, barred, noCost, fromTables, keyFromTables}
 use Rattle.cells.specs.Given.{slotSum, Given, lastFrom}
 
 -- ---- the test

@@ -2,7 +2,7 @@
 -- Assumes nothing.
 use mathlib.Core.Path.{_≡_, refl, sym, ap}
 use mathlib.Core.List.{List, [], _∷_, _++_, append-assoc}
-use Prim.Native.Nat.{ℕ, _+_, _-_}
+use Prim.Native.Nat.{ℕ}
 use Rattle.day.specs.Answer.{Answer, gives, refuses, onGiven, refusal}
 use Rattle.day.specs.declared.Refusal.{Refusal}
 use Rattle.dayfile.specs.Reading.{Rows, addRow}

@@ -8,7 +8,7 @@ use native.Mathlib.Nat.{le-trans}
 use native.Mathlib.Omega.{arith}
 use lib.Dec.{T}
 use lib.ListN.{length, getD, length-append}
-use Rattle.day.specs.Answer.{Answer, gives, refuses, Check, checked}
+use Rattle.day.specs.Answer.{Answer, gives, Check, checked}
 use Rattle.day.specs.AnswerLaws.{AllHold, checked-holds, checked-gives, given-then}
 use Rattle.day.specs.Sound.{Range, within, headRanges, trainRanges, moveRanges}
 use Rattle.day.specs.SoundLaws.{Within, within-is}

@@ -5,7 +5,7 @@ use mathlib.Core.List.{List, [], _∷_}
 use Prim.Native.Nat.{ℕ, zero, suc, _+_, _≤_}
 use native.Mathlib.Omega.{arith}
 use lib.ListN.{length, getD}
-use Rattle.day.specs.Answer.{Answer, gives, refuses, Check, checked}
+use Rattle.day.specs.Answer.{Answer, gives, Check, checked}
 use Rattle.day.specs.AnswerLaws.{Only, OnlyChecks, only-given, only-checked}
 use Rattle.day.specs.declared.Limits.{Limits}
 use Rattle.decimal.specs.Parsed.{Parsed, fail, got}

@@ -7,7 +7,7 @@ use native.Mathlib.Omega.{arith}
 use lib.ListN.{length, take, drop, replicate, length-map}
 use lib.Seq.{take-append-seam}
 use Rattle.model.specs.Model.{Yard}
-use Rattle.day.specs.Answer.{Answer, gives, refusal, judged}
+use Rattle.day.specs.Answer.{gives, refusal, judged}
 use Rattle.day.specs.AnswerLaws.{given-then}
 use Rattle.day.specs.Sound.{dayFrom, headRanges}
 use Rattle.day.specs.SoundLaws.{within-is}

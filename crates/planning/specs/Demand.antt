@@ -24,7 +24,7 @@ use Rattle.fold.specs.Listed.{take-front, drop-front}
 use Rattle.model.specs.Model.{Yard, Outcome, outcome, boundInside, Best, SomeRow, NoRow, FirstOverbooked}
 use Rattle.model.specs.Rows.{allowed-is}
 use Rattle.model.specs.BestOf.{bestOf, is-best, is-none}
-use Rattle.model.specs.Overbooked.{Interval, firstOverbooked, SaysFirst, first-says}
+use Rattle.model.specs.Overbooked.{SaysFirst, first-says}
 use Rattle.day.specs.Answer.{Answer, gives, refuses, code}
 use Rattle.day.specs.AnswerLaws.{gives-same}
 use Rattle.day.specs.Sound.{sound}

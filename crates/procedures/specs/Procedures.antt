@@ -5,7 +5,7 @@ use mathlib.Core.Bool.{Bool, cond, _&&_, _||_}
 use mathlib.Core.List.{List}
 use Prim.Native.Nat.{ℕ, zero, suc}
 use lib.Dec.{leb, ltb, eqb}
-use lib.ListN.{getD, set, replicate}
+use lib.ListN.{set, replicate}
 use Rattle.fold.specs.Fold.{bit, sum, some, lowest}
 use Rattle.model.specs.Model.{Yard, received, slotOf, supplies, load, weighed, inTime, outsideBoxes}
 

@@ -6,8 +6,8 @@ ghost use mathlib.Core.Path.{_≡_};
 ghost use Prim.Native.Nat.{_^_, _≤_, _<_};
 ghost use lib.IntN.{pos, _-ℤ_};
 ghost use lib.ListN.{length, replicate};
-ghost use Rattle.fold.specs.Fold.{sum, some};
-ghost use Rattle.model.specs.Model.{cell, inTime, outsideBoxes};
+ghost use Rattle.fold.specs.Fold.{some};
+ghost use Rattle.model.specs.Model.{cell};
 ghost use Rattle.counting.specs.Given.{Given, GivenPair};
 ghost use Rattle.procedures.specs.Procedures.{trackFree, leftOver, earliest, comeTo, waitingSupplier, priority, select, fillTo, servedTo};
 

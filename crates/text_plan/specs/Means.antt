@@ -7,28 +7,25 @@
 --                  told with any refusal.
 -- Assumes nothing.
 use mathlib.Core.Path.{_≡_, refl, sym, ap, _∙_, subst}
-use mathlib.Core.Bool.{true}
 use mathlib.Core.List.{List, [], _∷_, _++_}
 use mathlib.Core.Logic.{_⊎_, inl, inr}
 use mathlib.Core.Option.{Option, none, some}
 use Prim.Native.Nat.{ℕ, _*_, _^_, _≤_}
-use native.Mathlib.Omega.{arith}
 use lib.Dec.{T, leb}
 use lib.ListN.{length, drop}
 use borrow.Author.Tests.{le-leb}
 use Rattle.model.specs.Model.{Yard, Outcome, outcome, boundInside, Best, SomeRow, NoRow, FirstOverbooked}
 use Rattle.model.specs.Rows.{allowed-is}
 use Rattle.model.specs.BestOf.{bestOf, is-best, is-none, none-is}
-use Rattle.model.specs.Overbooked.{Interval, firstOverbooked, SaysFirst, first-says}
+use Rattle.model.specs.Overbooked.{SaysFirst, first-says}
 use Rattle.day.specs.Answer.{Answer, gives, refuses, must, checked}
 use Rattle.day.specs.AnswerLaws.{gives-same, checked-gives}
-use Rattle.day.specs.Sound.{sound}
 use Rattle.day.specs.SoundLaws.{sound-is}
 use Rattle.day.specs.declared.Limits.{Limits}
 use Rattle.dayfile.specs.Reading.{readDay}
 use Rattle.dayfile.specs.RoundTrip.{read-sound}
 use Rattle.feasibility.specs.RowOrNone.{no-row-over}
-use Rattle.planning.specs.Planning.{costWords, choiceWords, bestAnswer, carriedBy, planned, begins, placed, rowAfter, openWords, Stays}
+use Rattle.planning.specs.Planning.{costWords, choiceWords, bestAnswer, carriedBy, planned, begins, placed, rowAfter, Stays}
 use Rattle.planning.specs.Answers.{planned-begun, row-begun, refuses-only}
 use Rattle.planning.specs.Demand.{memory-suffices, memory-after}
 use Rattle.telling.specs.Telling.{dayFor}

@@ -6,7 +6,7 @@ use Prim.Native.Nat.{ℕ}
 use Rattle.model.specs.Model.{Yard, Outcome}
 use Rattle.day.specs.Answer.{Answer, gives, refuses}
 use Rattle.day.specs.declared.Limits.{Limits}
-use Rattle.planning.specs.Planning.{costWords, choiceWords, planned, begins, rowAfter, openWords}
+use Rattle.planning.specs.Planning.{planned, begins, rowAfter, openWords}
 use Rattle.telling.specs.Telling.{dayFor, forDay}
 
 -- the caller lends so many words of cost, words of choice, bytes of row and numbers

@@ -18,7 +18,7 @@ use mathlib.Core.Logic.{_⊎_, inl, inr, _↔_}
 use Prim.Native.Nat.{ℕ, _*_, _^_, _≤_, _<_, zero-le}
 use native.Mathlib.Nat.{mul-le-mul}
 use native.Mathlib.Omega.{arith}
-use lib.Dec.{T, leb}
+use lib.Dec.{T}
 use lib.ListN.{length}
 use lib.Pow.{pow-mono}
 use borrow.Author.Tests.{le-leb, lt-leb}
@@ -34,7 +34,6 @@ use Rattle.valuing.specs.Valuing.{valued}
 use Rattle.valuing.specs.Laws.{valued-only, valued-allowed, allowed-valued}
 use Rattle.planning.specs.Planning.{costArea, choiceArea, planned}
 use Rattle.planning.specs.Answers.{areas-suffice, planned-only, from-best}
-use Rattle.comparing.specs.Comparing.{Comparison}
 use Rattle.baselines.specs.Baselines.{compared}
 use Rattle.baselines.specs.Savings.{compared-only}
 use Rattle.telling.specs.Telling.{dayFor, forDay}

@@ -1,7 +1,6 @@
 -- `day_sound::is_file_sound` meets its contract. The shape is what is asked for, and each part has its own function.
 -- Assumes nothing.
 use mathlib.Core.Path.{refl}
-use native.Mathlib.Omega.{arith}
 use Prim.Native.Nat.{_*_}
 use lib.ListN.{length}
 use borrow.Author.Tests.{eq-eqb}

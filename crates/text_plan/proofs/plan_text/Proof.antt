@@ -10,7 +10,7 @@ use Rattle.fold.specs.Test.{of-true}
 use Rattle.day.specs.Answer.{gives, refusal, judged}
 use Rattle.day.specs.Sound.{dayLimits, yard}
 use Rattle.dayfile.specs.Reading.{readDay}
-use Rattle.text_plan.specs.Laws.{PlansText, plans-nothing, plans-refused, plans-day}
+use Rattle.text_plan.specs.Laws.{plans-nothing, plans-refused, plans-day}
 use borrow.Author.Needs.{needs}
 use Rattle.text_plan.proofs.plan_text.Statement.{statement}
 use Rattle.text_plan.proofs.plan_text.Tie as tie
