@@ -5,7 +5,7 @@ use mathlib.Core.List.{List, [], _∷_, _++_, map}
 use Prim.Native.Nat.{ℕ, zero, suc, _+_, _-_, _*_, _≤_}
 use native.Mathlib.Omega.{arith}
 use lib.ListN.{length, take, drop, replicate, length-map}
-use lib.Seq.{take-append-seam}
+use Rattle.fold.specs.Listed.{take-front}
 use Rattle.model.specs.Model.{Yard}
 use Rattle.day.specs.Answer.{gives, refusal, judged}
 use Rattle.day.specs.AnswerLaws.{given-then}
@@ -72,7 +72,7 @@ module _ (l : Limits) (t : List ℕ) where
 
     module _ {numbers first last : List ℕ} {at : ℕ} (g : TrainsRead l c a t (trainSection l c a (drop next t)) (replicate (l .trains) 0) (replicate (l .trains) 0) (replicate (l .trains) 0) numbers first last at) where
       numbers-are : take a numbers ≡ map field1 (g .rows)
-      numbers-are = ap (take a) (g .numbersAre) ∙ rw (← (length-map (g .rows) field1 ∙ g .count)) (take-append-seam (map field1 (g .rows)) (drop (length (map field1 (g .rows))) (replicate (l .trains) 0)))
+      numbers-are = ap (take a) (g .numbersAre) ∙ take-front (map field1 (g .rows)) (drop a (replicate (l .trains) 0)) (length-map (g .rows) field1 ∙ g .count)
 
       pub moves-stop : (x : Refusal) → moveSection l (take a numbers) (4 + a) (drop at t) ≡ refusal x → readDay l t ≡ refusal x
       unfolding readDay readFile

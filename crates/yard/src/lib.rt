@@ -1,8 +1,8 @@
 // The C interface: functions on numbers and byte slices, for software that plans from C, C++, Rust or any language that calls C
 // (include/yard.h). A slice is a pointer and a length.
 //
-// Proved: for every text, row and lent memory each function returns and leaves what specs/Interface.antt says; too little room gives
-// refusal 10. Assumes nothing; of a caller only that a pointer has the length that is given beside it.
+// Proved: for every text, row and lent memory each function returns and leaves what the call behind it says, in the papers' numbers
+// (specs/Returns.antt: which they can be, and what they mean); too little room gives refusal 10. Assumes nothing; of a caller only that a pointer has the length that is given beside it.
 ghost use mathlib.Core.Path.{_≡_};
 ghost use lib.ListN.{length};
 ghost use Rattle.day.specs.Answer.{code};

@@ -23,14 +23,14 @@ use Rattle.placing.proofs.solve_day.Tie as tie
 abbrev head : tie.After-struct-known → tie.Start
 head c = c .before .before .before .before .before .before
 
-abbrev needed : tie.After-fill-late → tie.After-fill-needing
-needed c = c .before .before .before
+abbrev past-need : tie.After-fill-late → tie.After-fill-needing
+past-need c = c .before .before .before
 
-abbrev lately : tie.After-fill-price → tie.After-fill-late
-lately c = c .before .before .before .before
+abbrev past-late : tie.After-fill-price → tie.After-fill-late
+past-late c = c .before .before .before .before
 
-abbrev priced : tie.After-fill-open → tie.After-fill-price
-priced c = c .before .before .before .before .before
+abbrev past-price : tie.After-fill-open → tie.After-fill-price
+past-price c = c .before .before .before .before .before
 
 abbrev at-need : tie.After-boxes2 → tie.Start
 at-need c = head (c .before .before)
@@ -68,16 +68,16 @@ given c = record { few = least c .trains .1; narrow = least c .trains .1; whole 
 -- the filled tables, and that they are the day's
 abbrev filled : tie.After-fill-open → Tables
 filled f =
-    tablesOf (needed (lately (priced f)) .fill-needing .last .0) (lately (priced f) .fill-late .last .0) (priced f .fill-price .last .0)
+    tablesOf (past-need (past-late (past-price f)) .fill-needing .last .0) (past-late (past-price f) .fill-late .last .0) (past-price f .fill-price .last .0)
     (f .fill-open .last .0)
 
 day-tables : (f : tie.After-fill-open) → DayTables (yard (start f .args .day)) (filled f)
 day-tables f =
     let below : (m : ℕ) → m < 2 ^ start f .args .day .trains → m < start f .args .size = λ m h. omega (arith, start f .pre .1 .0) in
     record {
-      needs = needed (lately (priced f)) .fill-needing .ensures .all;
-      lates = lately (priced f) .fill-late .ensures .all;
-      prices = λ m h. priced f .fill-price .ensures .all m (below m h);
+      needs = past-need (past-late (past-price f)) .fill-needing .ensures .all;
+      lates = past-late (past-price f) .fill-late .ensures .all;
+      prices = λ m h. past-price f .fill-price .ensures .all m (below m h);
       windows = f .fill-open .ensures .all;
       cheap = λ row. omega (arith, cost-most (yard (start f .args .day)) row (start f .pre .0));
     }
@@ -155,9 +155,9 @@ solve-requires c κs =
       record {
         sets = (omega (arith, pow-pos (s .args .day .trains), s .pre .1 .0), small s);
         stages = least s .slots;
-        needs = long _ (needed (lately (priced f)) .fill-needing .kept .0);
-        lates = long _ (lately (priced f) .fill-late .kept .0);
-        prices = long _ (priced f .fill-price .kept .0);
+        needs = long _ (past-need (past-late (past-price f)) .fill-needing .kept .0);
+        lates = long _ (past-late (past-price f) .fill-late .kept .0);
+        prices = long _ (past-price f .fill-price .kept .0);
         opened = subst (λ k. s .args .day .slots ≤ k) (sym (f .fill-open .kept .0)) slots;
         fits = λ t r x l hx m. omega (arith, unbarred-cheap (day-tables f) t r x (omega (arith, s .pre .1 .0)) hx m);
       },

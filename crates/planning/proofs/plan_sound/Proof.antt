@@ -104,8 +104,8 @@ same-length-3 c = search needs
 
 returns-2 : tie.Need-returns-2
 returns-2 c =
-    let valued = c .before in
-    let p = valued .before .before .before .before .before .before .before .before in
+    let called = c .before in
+    let p = called .before .before .before .before .before .before .before .before in
     let a = origin p .args in
     let h = p .place-trains .ensures in
     let s = says-plan (yard (a .day)) (a .row .now) (p .place-trains .last .1 .1 .1 .0) (h .best) (h .rest) (long p) in
