@@ -12,14 +12,18 @@
  * Texts are bytes with a length; no zero byte ends them. Memory that is lent must have the length given beside it, and memory that a
  * function writes must not overlap other memory lent to the same call. A length may be 0; the pointer must then still not be null.
  *
- * Every function returns 0, or the number of a refusal (document 01; docs/FORMAT.md says what to do about each):
+ * Every function returns 0, or the number of a refusal (documents 01 and 02; docs/FORMAT.md says what to do about each):
  *      1  a names line is absent or differs          2  a row is absent or has another form
  *      3  a value is outside its limits              4  a train number isn't above the one before
  *      5  first is above last                        6  a move names an unlisted train, or to equals from
- *      7  a move's pair isn't after the pair before  9  no row is allowed (yard_answer prints it and returns 0)
+ *      7  a move's pair isn't after the pair before  9  a stretch of slots is overbooked, so no row is allowed
  *     10  lent memory is shorter than needed        11  the row's length isn't the number of trains
  *     12  a slot lies outside its train's window    13  a slot holds more trains than there are tracks
- *     14  first come or the myopic procedure leaves a train without a slot
+ *     14  first come or the myopic procedure leaves a train without a slot, or parts a group
+ *     15  a group's row names an unlisted train or one of an earlier row, or its pair isn't after the pair before
+ *     16  no stretch is overbooked, and still no row is allowed, since the groups can't be kept
+ *     17  a row parts a group
+ * Where yard_answer prints a refusal (1 to 7, 9, 15, 16) it returns 0.
  */
 #ifndef YARD_H
 #define YARD_H
@@ -33,7 +37,7 @@ extern "C" {
 
 /* The version of this interface. It changes when a size below or the meaning of a number does. yard_version() returns that of the library
  * that is linked: compare the two where header and library may come from different places. */
-#define YARD_VERSION 1
+#define YARD_VERSION 2
 
 uint64_t yard_version(void);
 
@@ -44,7 +48,7 @@ uint64_t yard_version(void);
 #define YARD_CHOICE_WORDS 32768
 
 /* Plans the day of a text: what the program yard-plan prints for it, byte for byte. That is the plan file; or, for a text that is no day
- * file, the two lines of refusals 1 to 7; or, for a day without a plan, the two lines of refusal 9.
+ * file, the two lines of refusals 1 to 7 and 15; or, for a day without a plan, the two lines of refusal 9 or 16.
  *
  * text, text_length   the day file. No byte of it changes.
  * out, out_length     the answer goes into its first bytes; bytes beyond stay as they were. YARD_ANSWER_BYTES always suffice.
@@ -59,23 +63,23 @@ uint64_t yard_answer(const uint8_t *text, size_t text_length, uint8_t *out, size
  * row, row_length          room for the slot of each train; YARD_MOST_TRAINS bytes always suffice. Afterwards its first *trains bytes hold
  *                          the slots, in the order of the day file, counted from 1; bytes beyond stay as they were, after a refusal all.
  * numbers, numbers_length  room for at least three numbers. Afterwards the first three hold revisits, split moves and cost; after a
- *                          refusal what it carries, then zeros: 1 to 7 the line; 9 the first and last slot of the overbooked stretch and
- *                          the number of trains bound inside; 10 three zeros. Numbers beyond stay as they were.
+ *                          refusal what it carries, then zeros: 1 to 7 and 15 the line; 9 the first and last slot of the overbooked
+ *                          stretch and the number of trains bound inside; 10 and 16 three zeros. Numbers beyond stay as they were.
  * trains                   holds the number of slots written afterwards: the number of trains of the day, or 0 after any refusal.
  *
- * Returns 0, or the refusal: 10 where numbers_length is below 3 (then no number has changed), else 1 to 7, else 10 where row_length is
- * below the number of trains, else 9. */
+ * Returns 0, or the refusal: 10 where numbers_length is below 3 (then no number has changed), else 1 to 7 or 15, else 10 where row_length
+ * is below the number of trains, else 9 or 16. */
 uint64_t yard_plan(const uint8_t *text, size_t text_length, uint8_t *row, size_t row_length, uint64_t *numbers, size_t numbers_length,
                    size_t *trains);
 
 /* The same with the two work areas of planning lent, for programs that keep them elsewhere than on the stack. For n trains and T slots
  * planning needs 2^n words of cost and T x 2^n words of choice; YARD_COST_WORDS and YARD_CHOICE_WORDS always suffice.
  *
- * cost, cost_length        After 0 and 9 the first 2^n words may hold anything; words beyond, and after any other refusal all, stay.
+ * cost, cost_length        After 0, 9 and 16 the first 2^n words may hold anything; words beyond, and after any other refusal all, stay.
  * choice, choice_length    The same of the first T x 2^n words.
  *
- * Returns as yard_plan does, with 10 also where an area is too short: 10 where numbers_length is below 3, else 1 to 7, else 10 where an
- * area or the row is too short, else 9. */
+ * Returns as yard_plan does, with 10 also where an area is too short: 10 where numbers_length is below 3, else 1 to 7 or 15, else 10
+ * where an area or the row is too short, else 9 or 16. */
 uint64_t yard_plan_in_workspace(const uint8_t *text, size_t text_length, uint64_t *cost, size_t cost_length, uint16_t *choice,
                                 size_t choice_length, uint8_t *row, size_t row_length, uint64_t *numbers, size_t numbers_length,
                                 size_t *trains);
@@ -85,7 +89,7 @@ uint64_t yard_plan_in_workspace(const uint8_t *text, size_t text_length, uint64_
  * text, text_length   any bytes. None of them changes.
  * line                holds 0 afterwards, or the line of the refusal, counted from 1.
  *
- * Returns 0, or the refusal, 1 to 7. */
+ * Returns 0, or the refusal, 1 to 7 or 15. */
 uint64_t yard_check(const uint8_t *text, size_t text_length, uint64_t *line);
 
 /* Values a row of slots on the day of a text.
@@ -93,10 +97,12 @@ uint64_t yard_check(const uint8_t *text, size_t text_length, uint64_t *line);
  * text, text_length        the day file. No byte of it changes.
  * row, row_length          the slot of each train, in the order of the day file, slots counted from 1. No byte of it changes.
  * numbers, numbers_length  room for at least three numbers. Afterwards the first three hold revisits, split moves and cost; after a
- *                          refusal what it carries, then zeros: 1 to 7 the line, 11 three zeros, 12 the lowest position outside its window,
- *                          13 the lowest slot with too many trains, both counted from 1. Numbers beyond stay as they were.
+ *                          refusal what it carries, then zeros: 1 to 7 and 15 the line, 11 three zeros, 12 the lowest position outside
+ *                          its window, 13 the lowest slot with too many trains, both counted from 1, 17 the lowest parted group.
+ *                          Numbers beyond stay as they were.
  *
- * Returns 0, or the refusal: 10 where numbers_length is below 3 (then no number has changed), else 1 to 7, 11, 12 or 13. */
+ * Returns 0, or the refusal: 10 where numbers_length is below 3 (then no number has changed), else 1 to 7 or 15, else 11, 12, 13
+ * or 17. */
 uint64_t yard_value(const uint8_t *text, size_t text_length, const uint8_t *row, size_t row_length, uint64_t *numbers, size_t numbers_length);
 
 /* What planning saves on the day of a text, against one of two simple procedures: the three numbers of the procedure's row of slots, and
@@ -105,17 +111,18 @@ uint64_t yard_value(const uint8_t *text, size_t text_length, const uint8_t *row,
  * First come, first served: the trains in the order of the day file each take the earliest slot in their window with a track free.
  * Myopic: slot after slot and track after track, of the trains whose window holds the slot that one which adds least to the cost, of
  * equal ones the first in the day file; where there is none the next slot begins. It adds the revisit weight where one of its suppliers
- * has no slot yet, and the split weight for each box from a supplier that is not in this slot.
+ * has no slot yet, and the split weight for each box from a supplier that is not in this slot. Neither looks at groups.
  *
  * text, text_length        the day file. No byte of it changes.
  * numbers, numbers_length  room for at least three numbers. Afterwards the first three hold revisits, split moves and cost of the
- *                          procedure's row; after a refusal what it carries, then zeros: 1 to 7 the line; 9 the first and last slot of
- *                          the overbooked stretch and the number of trains bound inside; 14 the lowest position that is left without a
- *                          slot, counted from 1. Numbers beyond stay as they were.
+ *                          procedure's row; after a refusal what it carries, then zeros: 1 to 7 and 15 the line; 9 the first and last
+ *                          slot of the overbooked stretch and the number of trains bound inside; 16 three zeros; 14 the lowest position
+ *                          that is left without a slot, counted from 1, or 0 where each train has a slot and a group is parted.
+ *                          Numbers beyond stay as they were.
  * saving                   holds the saving afterwards, 0 after any refusal.
  *
- * Each returns 0, or the refusal: 10 where numbers_length is below 3 (then no number has changed), else 1 to 7, 9 or 14. A day with 14
- * has a plan. */
+ * Each returns 0, or the refusal: 10 where numbers_length is below 3 (then no number has changed), else 1 to 7 or 15, else 9 or 16,
+ * else 14. A day with 14 has a plan. */
 uint64_t yard_first_come_first_served(const uint8_t *text, size_t text_length, uint64_t *numbers, size_t numbers_length, int64_t *saving);
 uint64_t yard_myopic(const uint8_t *text, size_t text_length, uint64_t *numbers, size_t numbers_length, int64_t *saving);
 

@@ -1,25 +1,29 @@
-//! Mode baselines: the library's two baseline calls on known, drawn, crowded
-//! and damaged days, and on special texts.
+//! Mode baselines: the library's two baseline calls on known, drawn, crowded,
+//! grouped and damaged days, and on special texts.
 
 use crate::damage::draw_damaged;
 use crate::day_file::write_day;
-use crate::draw::{draw_crowded, draw_day, Random, DAMAGED_MOST};
-use crate::known::{BASELINE_DAYS, EDGES, KNOWN_DAYS, SMALL_INPUTS};
+use crate::draw::{draw_crowded, draw_day, draw_grouped, Random, DAMAGED_MOST};
+use crate::known::BASELINE_DAYS;
+use crate::known_sets::GROUPED_BASELINE_DAYS;
 use crate::misreadings::{passed_boxes_left_out, passed_leave};
 use crate::model::Day;
 use crate::procedures::{myopic, myopic_by, Select, Slots};
 use crate::reports::Run;
 use crate::special::special_texts;
+use crate::texts::known_texts;
 
 const SOUND_DAYS: usize = 4000;
 const CROWDED_DAYS: usize = 1500;
 const PASSED_DAYS: usize = 80;
+const GROUPED_DAYS: usize = 1500;
 const DAMAGED_TEXTS: usize = 600;
 
 const SOUND_SEED: u64 = 4_000_000;
 const CROWDED_SEED: u64 = 5_000_000;
 const PASSED_SEED: u64 = 6_000_000;
 const DAMAGED_SEED: u64 = 7_000_000;
+const GROUPED_SEED: u64 = 12_000_000;
 
 /// Assignments to try for a sound day, and for a crowded one.
 const SOUND_MOST: usize = 20_000;
@@ -27,10 +31,10 @@ const CROWDED_MOST: usize = DAMAGED_MOST;
 
 fn known_group(run: &mut Run) {
     run.begin("known");
-    for day in KNOWN_DAYS.iter().chain(&SMALL_INPUTS).chain(&EDGES) {
-        run.judge(day.name, &day.text());
+    for (which, text) in known_texts() {
+        run.judge(&which, &text);
     }
-    for day in &BASELINE_DAYS {
+    for day in BASELINE_DAYS.iter().chain(&GROUPED_BASELINE_DAYS) {
         run.judge(day.name, &day.text());
     }
 }
@@ -48,6 +52,15 @@ fn crowded_group(run: &mut Run) {
     run.begin("crowded");
     for seed in (CROWDED_SEED..).take(CROWDED_DAYS) {
         let day = draw_crowded(&mut Random(seed), CROWDED_MOST);
+        run.judge(&format!("seed {seed}"), &write_day(&day));
+    }
+}
+
+/// Days with groups of trains, which a baseline often parts.
+fn grouped_group(run: &mut Run) {
+    run.begin("sets");
+    for seed in (GROUPED_SEED..).take(GROUPED_DAYS) {
+        let day = draw_grouped(&mut Random(seed), CROWDED_MOST);
         run.judge(&format!("seed {seed}"), &write_day(&day));
     }
 }
@@ -94,6 +107,7 @@ pub fn baselines() -> bool {
     known_group(&mut run);
     sound_group(&mut run);
     crowded_group(&mut run);
+    grouped_group(&mut run);
     passed_group(&mut run);
     damaged_group(&mut run);
     special_group(&mut run);

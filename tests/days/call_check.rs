@@ -1,39 +1,48 @@
 //! yard_check: 0 and line 0, or the refusal of the text and its line.
 
 use crate::case::Case;
-use crate::day_file::Refusal;
+use crate::day_file::{Refusal, READING_REFUSALS};
 use crate::lent::{lent_text, returned, Lent, Marks};
+use crate::misreaders::MISREADERS;
 use crate::seen::Seen;
+use crate::sets::{groups, has_groups};
 use crate::sys;
 
-/// For each refusal 1 to 7, at any line and at a line of another number.
-const REFUSED: [(&str, &str); 7] = [
-    ("1", "1 at another line"),
-    ("2", "2 at another line"),
-    ("3", "3 at another line"),
-    ("4", "4 at another line"),
-    ("5", "5 at another line"),
-    ("6", "6 at another line"),
-    ("7", "7 at another line"),
-];
-
 const ACCEPTED: &str = "accepted";
+const GROUPED: &str = "accepted with groups";
+const SEVERAL: &str = "accepted with several groups";
 const FAR_DOWN: &str = "a line of two digits";
+const VERY_FAR_DOWN: &str = "a line of three digits";
+
+/// A refusal at a line of another number.
+fn elsewhere(number: usize) -> String {
+    format!("{number} at another line")
+}
 
 pub fn required() -> Vec<String> {
-    let refused = REFUSED.iter().flat_map(|(any, other)| [*any, *other]);
-    refused.chain([ACCEPTED, FAR_DOWN]).map(str::to_string).collect()
+    let others = [ACCEPTED, GROUPED, SEVERAL, FAR_DOWN, VERY_FAR_DOWN].map(str::to_string);
+    let refused = READING_REFUSALS.into_iter();
+    let refused = refused.flat_map(|number| [number.to_string(), elsewhere(number)]);
+    let misread = MISREADERS.iter().map(|(name, _)| name.to_string());
+    refused.chain(others).chain(misread).collect()
 }
 
 fn note(seen: &mut Seen, case: &Case) {
-    match case.read {
-        Ok(_) => seen.note(ACCEPTED),
-        Err(Refusal { number, line }) => {
-            let (any, other) = REFUSED[number - 1];
-            seen.note(any);
-            seen.note_if(line != number, other);
-            seen.note_if(line > 9, FAR_DOWN);
+    match &case.read {
+        Ok(day) => {
+            seen.note(ACCEPTED);
+            seen.note_if(has_groups(day), GROUPED);
+            seen.note_if(groups(day).len() > 1, SEVERAL);
         }
+        Err(Refusal { number, line }) => {
+            seen.note(&number.to_string());
+            seen.note_if(line != number, &elsewhere(*number));
+            seen.note_if(*line > 9, FAR_DOWN);
+            seen.note_if(*line > 99, VERY_FAR_DOWN);
+        }
+    }
+    for (name, misread) in MISREADERS {
+        seen.note_if(misread(case.text).err() != case.read.as_ref().err().copied(), name);
     }
 }
 

@@ -1,14 +1,19 @@
 //! yard_plan: slots and numbers of the plan, or the first of its refusals: 10
-//! for the numbers, 1 to 7, 10 for the row, 9.
+//! for the numbers, 1 to 7 or 15, 10 for the row, 9 or 16.
 
 use crate::case::{unless_too_few, Case, Outcome, KINDS};
 use crate::header::MOST_TRAINS;
 use crate::lent::{lent_text, returned, Lent, Marks};
+use crate::misplannings::MISPLANNINGS;
 use crate::model::Day;
 use crate::plan::{overbooked, Interval};
 use crate::rotation::{chosen, supposed};
 use crate::seen::Seen;
+use crate::sets::has_groups;
 use crate::sys;
+
+/// Days with groups and no more assignments are planned by each mistake too.
+const MISPLANNED_MOST: usize = 2000;
 
 /// The lengths of row and numbers, for a day of so many trains.
 pub struct Lending {
@@ -57,6 +62,7 @@ fn on_kind(name: &str, kind: &str) -> String {
 
 pub fn required() -> Vec<String> {
     let mut required = INTERVALS.map(str::to_string).to_vec();
+    required.extend(MISPLANNINGS.iter().map(|(name, _)| name.to_string()));
     for lending in SUFFICIENT.iter().chain(&SHORT) {
         required.extend(KINDS.map(|kind| on_kind(lending.name, kind)));
     }
@@ -72,6 +78,15 @@ fn note_intervals(seen: &mut Seen, day: &Day) {
     let another = |other: &Interval| other.first == *first && other.last != *last;
     seen.note_if(intervals.iter().any(another), INTERVALS[2]);
     seen.note_if(intervals.iter().any(|other| other.first != *first), INTERVALS[3]);
+}
+
+/// What a mistake would answer otherwise.
+fn note_misplanned(seen: &mut Seen, case: &Case, day: &Day) {
+    if has_groups(day) && day.assignments() <= MISPLANNED_MOST {
+        for (name, misplan) in MISPLANNINGS {
+            seen.note_if(misplan(day) != case.answer, name);
+        }
+    }
 }
 
 /// What a call that plans has to return where memory enough is lent or not,
@@ -117,6 +132,7 @@ pub fn compare(case: &Case, seen: &mut Seen) -> Result<(), String> {
     let (n, _) = supposed(case);
     if let Ok(day) = &case.read {
         note_intervals(seen, day);
+        note_misplanned(seen, case, day);
     }
     let sufficient = SUFFICIENT.iter().enumerate();
     let sufficient = sufficient.filter(|(way, _)| chosen(case, *way, SUFFICIENT.len()));

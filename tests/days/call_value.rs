@@ -1,17 +1,20 @@
 //! yard_value: the model's three numbers for a row of slots, or the first of
-//! its refusals: 10, 1 to 7, 11, 12, 13.
+//! its refusals: 10, 1 to 7 or 15, 11, 12, 13, 17.
 
 use crate::case::{unless_too_few, Case, Outcome, KINDS};
+use crate::day_file::READING_REFUSALS;
 use crate::draw::Random;
 use crate::lent::{lent_text, returned, Lent, Marks};
+use crate::misjudgings::MISJUDGINGS;
 use crate::misvaluings::MISVALUINGS;
-use crate::model::{Day, Value};
-use crate::plan::Plan;
+use crate::model::{Day, Value, MOST_GROUP};
+use crate::plan::{Answer, Plan};
 use crate::rotation::seldom;
 use crate::seen::Seen;
+use crate::sets::{groups, has_groups, members};
 use crate::sys;
 use crate::trials::{trials, trials_unread};
-use crate::valuing::{load, outside, overfull, valued};
+use crate::valuing::{assignment, load, outside, overfull, parted, valued};
 
 const SEED: u64 = 9_000_000;
 
@@ -23,7 +26,7 @@ const TOO_FEW: [usize; 3] = [0, 1, 2];
 // What has to be seen
 // ---------------------------------------------------------------------------
 
-const LENGTHS: [&str; 7] = [
+const LENGTHS: [&str; 8] = [
     "11: no slot",
     "11: a slot too few",
     "11: a slot too many",
@@ -31,9 +34,10 @@ const LENGTHS: [&str; 7] = [
     "11: the low 8 bits of the length are right",
     "11 where 12 holds too",
     "11 where 13 holds too",
+    "11 where 17 holds too",
 ];
 
-const WINDOWS: [&str; 9] = [
+const WINDOWS: [&str; 10] = [
     "12: slot 0",
     "12: slot T + 1",
     "12: slot 255",
@@ -43,12 +47,31 @@ const WINDOWS: [&str; 9] = [
     "12: several positions",
     "12: the last position alone",
     "12 where 13 holds too",
+    "12 where 17 holds too",
 ];
 
-const TRACKS: [&str; 4] =
-    ["13: several slots", "13: a train too many", "13: the last slot alone", "13: on a day with 9"];
+const TRACKS: [&str; 6] = [
+    "13: several slots",
+    "13: a train too many",
+    "13: the last slot alone",
+    "13: on a day with 9",
+    "13: on a day with 16",
+    "13 where 17 holds too",
+];
 
-const VALUES: [&str; 7] = [
+const GROUPS: [&str; 9] = [
+    "17: several groups",
+    "17: one of several groups, not the lowest",
+    "17: group 1",
+    "17: the highest group number",
+    "17: a group of two",
+    "17: a group of more than three",
+    "17: the first members are together",
+    "17: on a day with a plan",
+    "17: on a day with 16",
+];
+
+const VALUES: [&str; 9] = [
     "0: the plan",
     "0: another assignment",
     "0: as dear as the plan, another assignment",
@@ -56,21 +79,23 @@ const VALUES: [&str; 7] = [
     "0: a full slot",
     "0: split moves of 2^14 or more",
     "0: a cost of 2^30 or more",
+    "0: groups kept, another assignment",
+    "0: several groups in one slot",
 ];
 
-const UNREAD: [&str; 7] = ["1", "2", "3", "4", "5", "6", "7"];
-
-const FEW: [&str; 3] = ["10 before 0", "10 before 1 to 7", "10 before 11 to 13"];
+const FEW: [&str; 3] = ["10 before 0", "10 before 1 to 7 or 15", "10 before 11, 12, 13 or 17"];
 
 fn lent_on(lent: usize, kind: &str) -> String {
     format!("{lent} numbers on {kind}")
 }
 
 pub fn required() -> Vec<String> {
-    let lists: [&[&str]; 6] = [&LENGTHS, &WINDOWS, &TRACKS, &VALUES, &UNREAD, &FEW];
+    let lists: [&[&str]; 6] = [&LENGTHS, &WINDOWS, &TRACKS, &GROUPS, &VALUES, &FEW];
     let misvalued = MISVALUINGS.iter().map(|(name, _)| *name);
-    let mut required: Vec<String> =
-        lists.concat().into_iter().chain(misvalued).map(str::to_string).collect();
+    let misjudged = MISJUDGINGS.iter().map(|(name, _)| *name);
+    let lists = lists.concat().into_iter().chain(misvalued).chain(misjudged);
+    let mut required: Vec<String> = lists.map(str::to_string).collect();
+    required.extend(READING_REFUSALS.map(|number| number.to_string()));
     for lent in ENOUGH.into_iter().chain(TOO_FEW) {
         required.extend(KINDS.map(|kind| lent_on(lent, kind)));
     }
@@ -86,6 +111,7 @@ fn note_length(seen: &mut Seen, day: &Day, slots: &[u8]) {
     seen.note_if(length % 256 == n, LENGTHS[4]);
     seen.note_if(!outside(day, slots).is_empty(), LENGTHS[5]);
     seen.note_if(!overfull(day, slots).is_empty(), LENGTHS[6]);
+    seen.note_if(!parted(day, slots).is_empty(), LENGTHS[7]);
 }
 
 fn note_window(seen: &mut Seen, day: &Day, slots: &[u8]) {
@@ -102,18 +128,43 @@ fn note_window(seen: &mut Seen, day: &Day, slots: &[u8]) {
     seen.note_if(outside.len() > 1, WINDOWS[6]);
     seen.note_if(outside == [day.trains.len() - 1] && outside[0] > 0, WINDOWS[7]);
     seen.note_if(!overfull(day, slots).is_empty(), WINDOWS[8]);
+    seen.note_if(!parted(day, slots).is_empty(), WINDOWS[9]);
 }
 
-fn note_tracks(seen: &mut Seen, day: &Day, slots: &[u8], plan: Option<&Plan>) {
+fn note_tracks(seen: &mut Seen, day: &Day, slots: &[u8], answer: &Answer) {
     let overfull = overfull(day, slots);
     seen.note_if(overfull.len() > 1, TRACKS[0]);
     seen.note_if(load(day, slots, overfull[0]) == day.tracks + 1, TRACKS[1]);
     seen.note_if(overfull == [day.slots] && day.slots > 1, TRACKS[2]);
-    seen.note_if(plan.is_none(), TRACKS[3]);
+    seen.note_if(matches!(answer, Answer::Overbooked(_)), TRACKS[3]);
+    seen.note_if(*answer == Answer::Unkept, TRACKS[4]);
+    seen.note_if(!parted(day, slots).is_empty(), TRACKS[5]);
+}
+
+fn note_groups(seen: &mut Seen, day: &Day, slots: &[u8], answer: &Answer) {
+    let parted = parted(day, slots);
+    let (lowest, members) = (parted[0], members(day, parted[0]));
+    seen.note_if(parted.len() > 1, GROUPS[0]);
+    seen.note_if(parted.len() == 1 && groups(day)[0] < lowest, GROUPS[1]);
+    seen.note_if(lowest == 1, GROUPS[2]);
+    seen.note_if(lowest == MOST_GROUP, GROUPS[3]);
+    seen.note_if(members.len() == 2, GROUPS[4]);
+    seen.note_if(members.len() > 3, GROUPS[5]);
+    seen.note_if(slots[members[0]] == slots[members[1]], GROUPS[6]);
+    seen.note_if(matches!(answer, Answer::Plan(_)), GROUPS[7]);
+    seen.note_if(*answer == Answer::Unkept, GROUPS[8]);
+}
+
+/// Whether two groups share a slot.
+fn groups_meet(day: &Day, assignment: &[usize]) -> bool {
+    let slots = groups(day).into_iter().map(|group| assignment[members(day, group)[0]]);
+    let mut slots: Vec<usize> = slots.collect();
+    slots.sort_unstable();
+    slots.windows(2).any(|two| two[0] == two[1])
 }
 
 fn note_value(seen: &mut Seen, day: &Day, slots: &[u8], plan: &Plan, outcome: &Outcome) {
-    let assignment: Vec<usize> = slots.iter().map(|&slot| usize::from(slot)).collect();
+    let assignment = assignment(slots);
     let Value { revisits, splits, cost } = plan.value;
     let [_, own_splits, own_cost] = outcome.numbers;
     let full = |slot| load(day, slots, slot) == day.tracks;
@@ -125,6 +176,8 @@ fn note_value(seen: &mut Seen, day: &Day, slots: &[u8], plan: &Plan, outcome: &O
     seen.note_if((1..=day.slots).any(full), VALUES[4]);
     seen.note_if(own_splits >= 1 << 14, VALUES[5]);
     seen.note_if(own_cost >= 1 << 30, VALUES[6]);
+    seen.note_if(other && has_groups(day), VALUES[7]);
+    seen.note_if(groups_meet(day, &assignment), VALUES[8]);
     for (name, misvalue) in MISVALUINGS {
         seen.note_if(Outcome::value(misvalue(day, &assignment)) != *outcome, name);
     }
@@ -132,10 +185,11 @@ fn note_value(seen: &mut Seen, day: &Day, slots: &[u8], plan: &Plan, outcome: &O
 
 fn note(seen: &mut Seen, case: &Case, slots: &[u8], outcome: &Outcome) {
     match (&case.read, outcome.refusal) {
-        (Err(refusal), _) => seen.note(UNREAD[refusal.number - 1]),
+        (Err(refusal), _) => seen.note(&refusal.number.to_string()),
         (Ok(day), 11) => note_length(seen, day, slots),
         (Ok(day), 12) => note_window(seen, day, slots),
-        (Ok(day), 13) => note_tracks(seen, day, slots, case.plan()),
+        (Ok(day), 13) => note_tracks(seen, day, slots, &case.answer),
+        (Ok(day), 17) => note_groups(seen, day, slots, &case.answer),
         (Ok(day), _) => {
             let plan = case.plan().expect("a plan, an assignment being allowed");
             note_value(seen, day, slots, plan, outcome);
@@ -143,8 +197,13 @@ fn note(seen: &mut Seen, case: &Case, slots: &[u8], outcome: &Outcome) {
     }
     match outcome.refusal {
         0 => seen.note(FEW[0]),
-        1..=7 => seen.note(FEW[1]),
+        refusal if READING_REFUSALS.contains(&refusal) => seen.note(FEW[1]),
         _ => seen.note(FEW[2]),
+    }
+    if let Ok(day) = &case.read {
+        for (name, misjudge) in MISJUDGINGS {
+            seen.note_if(has_groups(day) && misjudge(day, slots) != *outcome, name);
+        }
     }
 }
 

@@ -1,5 +1,5 @@
 //! yard_plan_in_workspace: as yard_plan, with the two areas lent. Areas that
-//! suffice are never refused; after a refusal but 9 no word of them has
+//! suffice are never refused; after a refusal but 9 and 16 no word of them has
 //! changed, and words beyond those needed never.
 
 use crate::call_plan::planned;
@@ -139,7 +139,7 @@ fn compare_one(case: &Case, need: Need, lent: Lengths, marks: Marks) -> Result<(
     numbers.holds(&outcome.written(numbers.length()))?;
     trains.holds(&[slots.len()])?;
     row.holds(&slots)?;
-    let worked = matches!(outcome.refusal, 0 | 9);
+    let worked = matches!(outcome.refusal, 0 | 9 | 16);
     cost.kept_beyond(if worked { need.cost } else { 0 })?;
     choice.kept_beyond(if worked { need.choice } else { 0 })?;
     text.kept()

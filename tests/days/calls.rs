@@ -7,6 +7,7 @@ use crate::draw::{draw_crowded, Random, DAMAGED_MOST};
 use crate::groups::{Tests, MOST_DIFFERENCES};
 use crate::header;
 use crate::known::BASELINE_DAYS;
+use crate::known_sets::GROUPED_BASELINE_DAYS;
 use crate::model::{MOST_BYTES_PRINTED, MOST_SLOTS, MOST_TRAINS};
 use crate::plan::broken;
 use crate::process::escaped;
@@ -14,7 +15,9 @@ use crate::seen::{Seen, LEAST_SEEN};
 use crate::special::special_texts;
 use crate::stack::compare_in_little_stack;
 use crate::sys;
-use crate::texts::{damaged_texts, heavy_texts, known_texts, pieced_texts, sound_texts, Named};
+use crate::texts::{
+    damaged_texts, grouped_texts, heavy_texts, known_texts, pieced_texts, sound_texts, Named,
+};
 use crate::threads::compare_at_once;
 use crate::{call_answer, call_check, call_plan, call_value, call_workspace};
 use std::collections::BTreeSet;
@@ -133,7 +136,8 @@ fn check_header(tests: &mut Tests) {
 
 /// Days made by hand for the baselines, and days that fill their slots.
 fn crowded_texts() -> impl Iterator<Item = Named> {
-    let made = BASELINE_DAYS.iter().map(|day| (day.name.to_string(), day.text()));
+    let made = BASELINE_DAYS.iter().chain(&GROUPED_BASELINE_DAYS);
+    let made = made.map(|day| (day.name.to_string(), day.text()));
     made.chain((CROWDED_SEED..).take(CROWDED_DAYS).map(|seed| {
         let day = draw_crowded(&mut Random(seed), DAMAGED_MOST);
         (format!("seed {seed}"), write_day(&day))
@@ -145,6 +149,7 @@ pub fn calls() -> bool {
     check_header(&mut run.tests);
     run.group("known", known_texts());
     run.group("sound", sound_texts());
+    run.group("sets", grouped_texts());
     run.group("crowded", crowded_texts());
     run.group("heavy", heavy_texts());
     run.group("damaged", damaged_texts());

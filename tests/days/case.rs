@@ -45,6 +45,7 @@ impl Case<'_> {
             Answer::Overbooked(Interval { first, last, bound }) => {
                 Outcome { refusal: 9, numbers: [*first, *last, *bound] }
             }
+            Answer::Unkept => Outcome::carrying(16, 0),
         }
     }
 
@@ -53,12 +54,13 @@ impl Case<'_> {
         match self.answer {
             Answer::Plan(_) => KINDS[0],
             Answer::Overbooked(_) => KINDS[1],
-            Answer::Refused(_) => KINDS[2],
+            Answer::Unkept => KINDS[2],
+            Answer::Refused(_) => KINDS[3],
         }
     }
 }
 
-pub const KINDS: [&str; 3] = ["a day with a plan", "a day with 9", "no day file"];
+pub const KINDS: [&str; 4] = ["a day with a plan", "a day with 9", "a day with 16", "no day file"];
 
 /// What a call returns and its three numbers: 0 with revisits, splits and cost,
 /// or the number of a refusal with what it carries, then zeros.

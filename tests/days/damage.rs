@@ -1,11 +1,16 @@
 //! Damages that aim at what a line says, and the draw among all damages.
 
-use crate::day_file::{read_day, HEAD_NAMES, MOVE_NAMES, TRAIN_NAMES};
+use crate::damage_sets::{
+    cut_at_group_names, group_beside_limits, group_broken_twice, group_names_again,
+    group_row_again, no_group_rows, other_rows, pairs_of_groups_swapped, second_group,
+    unlisted_in_group,
+};
+use crate::day_file::{read_day, GROUP_NAMES, HEAD_NAMES, MOVE_NAMES, TRAIN_NAMES};
 use crate::draft::{
     change_byte, cut_after_line, cut_anywhere, double_line, drop_last_newline, empty_line,
     greatest_values, insert_byte, pick_any, pick_row, remove_byte, remove_line, swap_lines, Draft,
 };
-use crate::draw::{draw_day, Random, DAMAGED_MOST, USUAL_MOST};
+use crate::draw::{draw_day, draw_grouped, Random, DAMAGED_MOST, USUAL_MOST};
 use crate::model::{MOST_BOXES, MOST_TRAIN_NUMBER};
 use crate::special::last_move;
 
@@ -14,7 +19,7 @@ use crate::special::last_move;
 fn extra_row(random: &mut Random, draft: &mut Draft) {
     let after_trains = 3 + draft.day.trains.len();
     let line = random.pick(&[2, after_trains, draft.lines.len()]);
-    let names: &[u8] = random.pick(&[HEAD_NAMES, TRAIN_NAMES, MOVE_NAMES]).as_bytes();
+    let names = random.pick(&[HEAD_NAMES, TRAIN_NAMES, MOVE_NAMES, GROUP_NAMES]).as_bytes();
     let head = draft.lines.get(1).cloned().unwrap_or_default();
     let train = format!("{MOST_TRAIN_NUMBER} 1 1");
     let again = last_move();
@@ -152,14 +157,20 @@ fn like(random: &mut Random, number: usize) -> usize {
     random.pick(&[bits, near, any])
 }
 
-/// A move to or from a train that is not there.
-fn unlisted_train(random: &mut Random, draft: &mut Draft) {
+/// The number of a train that is not there.
+pub fn unlisted_number(random: &mut Random, draft: &Draft) -> usize {
     let listed: Vec<usize> = draft.day.trains.iter().map(|train| train.number).collect();
     let mut number = 0;
     while !(1..=MOST_TRAIN_NUMBER).contains(&number) || listed.contains(&number) {
         let there = random.pick(&listed);
         number = like(random, there);
     }
+    number
+}
+
+/// A move to or from a train that is not there.
+fn unlisted_train(random: &mut Random, draft: &mut Draft) {
+    let number = unlisted_number(random, draft);
     if let Some(line) = pick_any(random, &draft.move_lines()) {
         draft.set_field(line, random.below(2), number);
     }
@@ -217,7 +228,7 @@ type Damage = fn(&mut Random, &mut Draft);
 
 /// The damages with their shares of the draw. Those that aim at one refusal
 /// have the larger shares, so that each refusal occurs hundreds of times.
-const DAMAGES: [(&str, usize, Damage); 28] = [
+const DAMAGES: [(&str, usize, Damage); 38] = [
     ("cut anywhere", 3, cut_anywhere),
     ("cut after a line", 2, cut_after_line),
     ("byte changed", 3, change_byte),
@@ -246,6 +257,16 @@ const DAMAGES: [(&str, usize, Damage); 28] = [
     ("move broken twice", 4, move_broken_twice),
     ("name changed", 3, change_name),
     ("upper case", 2, upper_case),
+    ("group rows removed", 2, no_group_rows),
+    ("text cut at the groups' names", 4, cut_at_group_names),
+    ("groups' names again", 4, group_names_again),
+    ("a row of another section", 3, other_rows),
+    ("group row again", 5, group_row_again),
+    ("group beside its limits", 3, group_beside_limits),
+    ("group rows out of order", 5, pairs_of_groups_swapped),
+    ("train in a second group", 5, second_group),
+    ("group of a train not listed", 5, unlisted_in_group),
+    ("group row broken twice", 5, group_broken_twice),
 ];
 
 /// Damages the draft once and returns the damage's name.
@@ -265,7 +286,8 @@ fn damage(random: &mut Random, draft: &mut Draft) -> &'static str {
 /// A text damaged once, sometimes twice, with the names of its damages.
 pub fn draw_damaged(random: &mut Random) -> (String, Vec<u8>) {
     loop {
-        let mut draft = Draft::new(draw_day(random, DAMAGED_MOST));
+        let draw = random.pick(&[draw_day, draw_day, draw_grouped]);
+        let mut draft = Draft::new(draw(random, DAMAGED_MOST));
         let sound = draft.text();
         let mut damages = damage(random, &mut draft).to_string();
         if random.one_in(4) {

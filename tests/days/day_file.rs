@@ -1,17 +1,22 @@
 //! The day file: its names and limits, reading and writing it.
 
 use crate::model::{
-    Boxes, Day, Train, MOST_BOXES, MOST_SLOTS, MOST_TRACKS, MOST_TRAINS, MOST_TRAIN_NUMBER,
-    MOST_WEIGHT,
+    Boxes, Day, Train, MOST_BOXES, MOST_GROUP, MOST_SLOTS, MOST_TRACKS, MOST_TRAINS,
+    MOST_TRAIN_NUMBER, MOST_WEIGHT,
 };
+use crate::sets::members;
 
 // ---------------------------------------------------------------------------
-// Reading a day file (01, The day file; refusals 1 to 7)
+// Reading a day file (01, The day file; refusals 1 to 7, and 15 by order 4 of 02)
 // ---------------------------------------------------------------------------
 
 pub const HEAD_NAMES: &str = "trains tracks slots revisit split";
 pub const TRAIN_NAMES: &str = "train first last";
 pub const MOVE_NAMES: &str = "to from boxes";
+pub const GROUP_NAMES: &str = "group train";
+
+/// The refusals of a text that is no day file.
+pub const READING_REFUSALS: [usize; 8] = [1, 2, 3, 4, 5, 6, 7, 15];
 
 #[derive(Clone, Copy, Debug, PartialEq)]
 pub struct Refusal {
@@ -32,6 +37,8 @@ pub fn train_limits(slots: usize) -> [Limits; 3] {
 pub const MOVE_LIMITS: [Limits; 3] =
     [(1, MOST_TRAIN_NUMBER), (1, MOST_TRAIN_NUMBER), (1, MOST_BOXES)];
 
+pub const GROUP_LIMITS: [Limits; 2] = [(1, MOST_GROUP), (1, MOST_TRAIN_NUMBER)];
+
 /// The lines of a text, taken downwards; `taken` is the number of the line
 /// taken last, so that an absent line counts as the one after the last.
 struct Lines<'a> {
@@ -42,6 +49,11 @@ struct Lines<'a> {
 impl<'a> Lines<'a> {
     fn at_end(&self) -> bool {
         self.rest.is_empty()
+    }
+
+    /// Whether the next line is exactly these names, with their byte 10.
+    fn next_is(&self, names: &str) -> bool {
+        self.rest.strip_prefix(names.as_bytes()).is_some_and(|rest| rest.starts_with(b"\n"))
     }
 
     /// The next line without its byte 10; nothing where the line is absent or
@@ -96,13 +108,22 @@ fn value_of(field: &[u8]) -> Option<usize> {
 }
 
 pub fn read_day(text: &[u8]) -> Result<Day, Refusal> {
+    read_day_by(text, &GROUP_RULES)
+}
+
+/// With rules of the caller's choice for the rows of groups.
+pub fn read_day_by(text: &[u8], rules: &GroupRules) -> Result<Day, Refusal> {
     let mut lines = Lines { rest: text, taken: 0 };
     lines.names(HEAD_NAMES)?;
     let head = lines.row(&HEAD_LIMITS)?;
     lines.names(TRAIN_NAMES)?;
-    let trains = read_trains(&mut lines, head[0], head[2])?;
+    let mut trains = read_trains(&mut lines, head[0], head[2])?;
     lines.names(MOVE_NAMES)?;
     let boxes = read_moves(&mut lines, &trains)?;
+    if !lines.at_end() {
+        lines.names(GROUP_NAMES)?;
+        read_groups(&mut lines, &mut trains, rules)?;
+    }
     Ok(Day {
         tracks: head[1],
         slots: head[2],
@@ -117,7 +138,7 @@ fn read_trains(lines: &mut Lines, count: usize, slots: usize) -> Result<Vec<Trai
     let mut trains: Vec<Train> = Vec::new();
     while trains.len() < count {
         let row = lines.row(&train_limits(slots))?;
-        let train = Train { number: row[0], first: row[1], last: row[2] };
+        let train = Train { number: row[0], first: row[1], last: row[2], group: 0 };
         if trains.last().is_some_and(|before| train.number <= before.number) {
             return lines.refuse(4);
         }
@@ -129,11 +150,12 @@ fn read_trains(lines: &mut Lines, count: usize, slots: usize) -> Result<Vec<Trai
     Ok(trains)
 }
 
+/// The moves, up to the end of the text or to the names of the groups.
 fn read_moves(lines: &mut Lines, trains: &[Train]) -> Result<Boxes, Refusal> {
     let position = |number: usize| trains.iter().position(|train| train.number == number);
     let mut boxes = [[0; MOST_TRAINS]; MOST_TRAINS];
     let mut before: Option<(usize, usize)> = None;
-    while !lines.at_end() {
+    while !lines.at_end() && !lines.next_is(GROUP_NAMES) {
         let row = lines.row(&MOVE_LIMITS)?;
         let pair = (row[0], row[1]);
         let (Some(to), Some(from)) = (position(pair.0), position(pair.1)) else {
@@ -151,18 +173,74 @@ fn read_moves(lines: &mut Lines, trains: &[Train]) -> Result<Boxes, Refusal> {
     Ok(boxes)
 }
 
+/// A row of a group: the group and the train number.
+pub type Pair = (usize, usize);
+
+/// The refusal of a row of a group by the trains, with their groups so far, the
+/// pair before and its own.
+pub type JudgePair = fn(&[Train], Option<Pair>, Pair) -> Option<usize>;
+
+/// The limits of a row of a group, and what it is refused with within them.
+pub struct GroupRules {
+    pub limits: [Limits; 2],
+    pub judge: JudgePair,
+}
+
+pub const GROUP_RULES: GroupRules = GroupRules { limits: GROUP_LIMITS, judge: judge_pair };
+
+pub fn unlisted(trains: &[Train], (_, number): Pair) -> bool {
+    trains.iter().all(|train| train.number != number)
+}
+
+/// Whether the pair's train is in a group by an earlier row.
+pub fn placed_before(trains: &[Train], (_, number): Pair) -> bool {
+    trains.iter().any(|train| train.number == number && train.group > 0)
+}
+
+/// Whether the pair isn't after the pair before.
+pub fn not_rising(before: Option<Pair>, pair: Pair) -> bool {
+    before.is_some_and(|before| pair <= before)
+}
+
+pub fn judge_pair(trains: &[Train], before: Option<Pair>, pair: Pair) -> Option<usize> {
+    let broken = unlisted(trains, pair) || not_rising(before, pair) || placed_before(trains, pair);
+    broken.then_some(15)
+}
+
+/// One row or more, up to the end of the text.
+fn read_groups(
+    lines: &mut Lines,
+    trains: &mut [Train],
+    GroupRules { limits, judge }: &GroupRules,
+) -> Result<(), Refusal> {
+    let mut before: Option<Pair> = None;
+    while before.is_none() || !lines.at_end() {
+        let row = lines.row(limits)?;
+        let pair = (row[0], row[1]);
+        if let Some(number) = judge(trains, before, pair) {
+            return lines.refuse(number);
+        }
+        for train in trains.iter_mut().filter(|train| train.number == pair.1) {
+            train.group = pair.0;
+        }
+        before = Some(pair);
+    }
+    Ok(())
+}
+
 // ---------------------------------------------------------------------------
 // Writing a day file
 // ---------------------------------------------------------------------------
 
-/// A day file of a day, its moves in the order of the pairs. Positions rise
-/// with the train numbers, so the pairs of numbers rise with the positions.
+/// A day file of a day, its moves and its groups in the order of the pairs.
+/// Positions rise with the train numbers, so the pairs of numbers rise with the
+/// positions.
 pub fn write_day(day: &Day) -> Vec<u8> {
     let n = day.trains.len();
     let weights = format!("{} {}", day.revisit_weight, day.split_weight);
     let mut text = format!("{HEAD_NAMES}\n{n} {} {} {weights}\n", day.tracks, day.slots);
     text += &format!("{TRAIN_NAMES}\n");
-    for Train { number, first, last } in &day.trains {
+    for Train { number, first, last, .. } in &day.trains {
         text += &format!("{number} {first} {last}\n");
     }
     text += &format!("{MOVE_NAMES}\n");
@@ -174,5 +252,20 @@ pub fn write_day(day: &Day) -> Vec<u8> {
             }
         }
     }
+    text += &write_groups(day);
     text.into_bytes()
+}
+
+/// The section of the groups; nothing where there are none.
+fn write_groups(day: &Day) -> String {
+    let rows = |group| {
+        let row = move |k: usize| format!("{group} {}\n", day.trains[k].number);
+        members(day, group).into_iter().map(row)
+    };
+    let rows: String = (1..=MOST_GROUP).flat_map(rows).collect();
+    if rows.is_empty() {
+        rows
+    } else {
+        format!("{GROUP_NAMES}\n{rows}")
+    }
 }

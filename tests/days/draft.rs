@@ -1,8 +1,9 @@
 //! The draft of a damaged text, and damages to its bytes and lines.
 
-use crate::day_file::{train_limits, write_day, HEAD_LIMITS, MOVE_LIMITS};
+use crate::day_file::{train_limits, write_day, GROUP_LIMITS, HEAD_LIMITS, MOVE_LIMITS};
 use crate::draw::Random;
 use crate::model::Day;
+use crate::sets::has_groups;
 
 /// The text of a sound day on its way to a damaged one. The pieces between the
 /// bytes 10 are kept, so the last piece is what follows the last byte 10.
@@ -39,12 +40,30 @@ impl Draft {
         self.present(3, 3 + self.day.trains.len())
     }
 
+    /// The line of the third names.
+    pub fn move_names(&self) -> usize {
+        3 + self.day.trains.len()
+    }
+
     pub fn move_lines(&self) -> Vec<usize> {
-        self.present(4 + self.day.trains.len(), usize::MAX)
+        self.present(self.move_names() + 1, self.group_names())
+    }
+
+    /// The line of the fourth names, or one that is never there.
+    pub fn group_names(&self) -> usize {
+        let moves = self.day.boxes.iter().flatten().filter(|&&boxes| boxes > 0).count();
+        match has_groups(&self.day) {
+            true => self.move_names() + 1 + moves,
+            false => usize::MAX - 1,
+        }
+    }
+
+    pub fn group_lines(&self) -> Vec<usize> {
+        self.present(self.group_names() + 1, usize::MAX)
     }
 
     pub fn names_lines(&self) -> Vec<usize> {
-        let places = [0, 2, 3 + self.day.trains.len()];
+        let places = [0, 2, self.move_names(), self.group_names()];
         places.into_iter().filter(|&line| line < self.lines.len() - 1).collect()
     }
 
@@ -71,9 +90,9 @@ pub fn pick_any(random: &mut Random, items: &[usize]) -> Option<usize> {
     (!items.is_empty()).then(|| random.pick(items))
 }
 
-/// One line of the three kinds of rows, each kind as often as the others.
+/// One line of the four kinds of rows, each kind as often as the others.
 pub fn pick_row(random: &mut Random, draft: &Draft) -> Option<usize> {
-    let kinds = [draft.head_lines(), draft.train_lines(), draft.move_lines()];
+    let kinds = [draft.head_lines(), draft.train_lines(), draft.move_lines(), draft.group_lines()];
     let kind = random.below(kinds.len());
     pick_any(random, &kinds[kind])
 }
@@ -83,6 +102,7 @@ pub fn greatest_values(draft: &Draft, line: usize) -> Vec<usize> {
     let limits = match line {
         1 => HEAD_LIMITS.to_vec(),
         _ if draft.train_lines().contains(&line) => train_limits(draft.day.slots).to_vec(),
+        _ if draft.group_lines().contains(&line) => GROUP_LIMITS.to_vec(),
         _ => MOVE_LIMITS.to_vec(),
     };
     limits.iter().map(|limits| limits.1).collect()

@@ -1,6 +1,7 @@
 //! Drawing numbers and sound days.
 
 use crate::day_file::Limits;
+use crate::draw_sets::group_trains;
 use crate::model::{
     Boxes, Day, Train, MOST_BOXES, MOST_SLOTS, MOST_TRACKS, MOST_TRAINS, MOST_TRAIN_NUMBER,
     MOST_WEIGHT,
@@ -46,7 +47,7 @@ impl Random {
         items[self.below(items.len())]
     }
 
-    fn shuffle<T>(&mut self, items: &mut [T]) {
+    pub fn shuffle<T>(&mut self, items: &mut [T]) {
         for index in (1..items.len()).rev() {
             items.swap(index, self.below(index + 1));
         }
@@ -63,6 +64,9 @@ pub const USUAL_MOST: usize = 60_000;
 const LARGE_MOST: usize = 2_100_000;
 pub const DAMAGED_MOST: usize = 5_000;
 const LARGE_ONE_IN: usize = 100;
+
+/// So many of the days of any kind have groups of trains.
+const GROUPED_ONE_IN: usize = 3;
 
 /// A drawn window; narrowing it keeps the home slot inside.
 #[derive(Clone, Copy)]
@@ -100,6 +104,12 @@ struct Yard {
     tracks: usize,
     slots: usize,
     windows: Vec<Window>,
+}
+
+impl Yard {
+    fn homes(&self) -> Vec<usize> {
+        self.windows.iter().map(|window| window.home).collect()
+    }
 }
 
 /// All windows open; tracks about as many as are needed.
@@ -141,6 +151,16 @@ fn planted_yard(random: &mut Random) -> Yard {
     let slots = random.between(1, MOST_SLOTS);
     let any = random.between(1, MOST_TRACKS);
     let tracks = random.pick(&[1, 2, 3, any]);
+    planted_among(random, slots, tracks)
+}
+
+/// The same with many tracks and few slots, which large groups need.
+fn roomy_yard(random: &mut Random) -> Yard {
+    let (slots, tracks) = (random.between(1, 4), random.between(4, MOST_TRACKS));
+    planted_among(random, slots, tracks)
+}
+
+fn planted_among(random: &mut Random, slots: usize, tracks: usize) -> Yard {
     let mut homes = places(random, 1..=slots, tracks);
     homes.truncate(random.between(1, homes.len().min(MOST_TRAINS)));
     let reach = random.pick(&[1, 2, 7]);
@@ -266,15 +286,17 @@ fn draw_weight(random: &mut Random) -> usize {
     random.pick(&[0, 0, 1, 1, MOST_WEIGHT, small, small, any])
 }
 
-/// A sound day in the yard, with at most `most` assignments within its windows.
-fn day_in(random: &mut Random, mut yard: Yard, most: usize) -> Day {
-    narrow_yard(random, &mut yard, most);
+/// A sound day in the yard, with at most `most` assignments within its windows,
+/// which the yard has afterwards by position.
+fn day_in(random: &mut Random, yard: &mut Yard, most: usize) -> Day {
+    narrow_yard(random, yard, most);
     random.shuffle(&mut yard.windows);
     let numbers = draw_numbers(random, yard.windows.len());
     let train = |(&number, window): (&usize, &Window)| Train {
         number,
         first: window.first,
         last: window.last,
+        group: 0,
     };
     Day {
         tracks: yard.tracks,
@@ -288,27 +310,48 @@ fn day_in(random: &mut Random, mut yard: Yard, most: usize) -> Day {
 
 /// A sound day of any kind.
 pub fn draw_day(random: &mut Random, most: usize) -> Day {
-    let yard = match random.below(6) {
+    let mut yard = match random.below(6) {
         0 => open_yard(random, most),
         1 => scattered_yard(random),
         2 => full_yard(random),
         3 => inner_overbooked_yard(random),
         _ => planted_yard(random),
     };
-    day_in(random, yard, most)
+    let mut day = day_in(random, &mut yard, most);
+    if random.one_in(GROUPED_ONE_IN) {
+        group_trains(random, &mut day, &yard.homes());
+    }
+    day
 }
 
-/// A sound day that has a plan and hardly a place to spare.
+/// A sound day without groups that has a plan and hardly a place to spare.
 pub fn draw_crowded(random: &mut Random, most: usize) -> Day {
-    let yard = crowded_yard(random);
-    day_in(random, yard, most)
+    let mut yard = crowded_yard(random);
+    day_in(random, &mut yard, most)
+}
+
+/// A sound day with groups, in yards that mostly have places enough.
+pub fn draw_grouped(random: &mut Random, most: usize) -> Day {
+    let mut yard = match random.below(10) {
+        0 => open_yard(random, most),
+        1 => scattered_yard(random),
+        2 => full_yard(random),
+        3 => inner_overbooked_yard(random),
+        4..=6 => crowded_yard(random),
+        7 => roomy_yard(random),
+        _ => planted_yard(random),
+    };
+    let mut day = day_in(random, &mut yard, most);
+    group_trains(random, &mut day, &yard.homes());
+    day
 }
 
 /// A sound day with six tracks and two slots for twelve trains, in which a slot
 /// costs about 2^bits: its 36 pairs have 228 boxes each on the average.
 pub fn draw_heavy(random: &mut Random, bits: u32) -> Day {
     let windows = (0..MOST_TRAINS).map(|_| Window { first: 1, last: 2, home: 1 }).collect();
-    let mut day = day_in(random, Yard { tracks: 6, slots: 2, windows }, USUAL_MOST);
+    let mut yard = Yard { tracks: 6, slots: 2, windows };
+    let mut day = day_in(random, &mut yard, USUAL_MOST);
     day.split_weight = (1_usize << bits).div_ceil(36 * 228);
     for to in 0..MOST_TRAINS {
         for from in (0..MOST_TRAINS).filter(|&from| from != to) {

@@ -5,7 +5,9 @@ use crate::draw::Random;
 use crate::groups::{Tests, MOST_DIFFERENCES};
 use crate::process::{compare_file, Feed};
 use crate::special::{line_end_texts, long_texts, special_texts, tiny_texts};
-use crate::texts::{damaged_texts, heavy_texts, known_texts, pieced_texts, sound_texts, Named};
+use crate::texts::{
+    damaged_texts, grouped_texts, heavy_texts, known_texts, pieced_texts, sound_texts, Named,
+};
 use std::fs;
 
 /// Mode self holds this program's answers to what the papers say; here
@@ -54,6 +56,7 @@ pub fn generated(program: &str) -> bool {
     let mut tests = Tests::new(program);
     group(&mut tests, "known", known_texts());
     group(&mut tests, "sound", sound_texts());
+    group(&mut tests, "sets", grouped_texts());
     group(&mut tests, "heavy", heavy_texts());
     group(&mut tests, "damaged", damaged_texts());
     group(&mut tests, "special", special_texts());
@@ -62,9 +65,10 @@ pub fn generated(program: &str) -> bool {
     if tests.stopped() {
         println!("stopped after {MOST_DIFFERENCES} differences");
     } else {
-        tests.require("sound", &[0, 8]);
-        tests.require("heavy", &[0]);
-        tests.require("damaged", &[1, 2, 3, 4, 5, 6, 7]);
+        tests.require("sound", &["plan", "9", "16"]);
+        tests.require("sets", &["plan", "9", "16"]);
+        tests.require("heavy", &["plan"]);
+        tests.require("damaged", &["1", "2", "3", "4", "5", "6", "7", "15"]);
     }
     tests.print_counts();
     tests.finish()

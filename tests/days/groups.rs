@@ -3,15 +3,21 @@
 use crate::plan::{answer, write_answer, Answer};
 use crate::process::{compare, escaped, Feed};
 
-const OUTCOMES: [&str; 9] = ["plan", "1", "2", "3", "4", "5", "6", "7", "9"];
+const OUTCOMES: [&str; 11] = ["plan", "1", "2", "3", "4", "5", "6", "7", "9", "15", "16"];
 pub const MOST_DIFFERENCES: usize = 10;
+
+/// The place in `OUTCOMES` of this outcome.
+fn place(outcome: &str) -> usize {
+    OUTCOMES.iter().position(|name| *name == outcome).expect("one of the outcomes")
+}
 
 /// The place of an answer in `OUTCOMES`.
 fn outcome(answer: &Answer) -> usize {
     match answer {
-        Answer::Plan(_) => 0,
-        Answer::Refused(refusal) => refusal.number,
-        Answer::Overbooked(_) => 8,
+        Answer::Plan(_) => place("plan"),
+        Answer::Refused(refusal) => place(&refusal.number.to_string()),
+        Answer::Overbooked(_) => place("9"),
+        Answer::Unkept => place("16"),
     }
 }
 
@@ -79,11 +85,11 @@ impl<'a> Tests<'a> {
     }
 
     /// A group that never saw an outcome has not tested it.
-    pub fn require(&mut self, name: &str, outcomes: &[usize]) {
-        for &outcome in outcomes {
-            let seen = |group: &Group| group.name == name && group.outcomes[outcome] > 0;
+    pub fn require(&mut self, name: &str, outcomes: &[&str]) {
+        for outcome in outcomes {
+            let seen = |group: &Group| group.name == name && group.outcomes[place(outcome)] > 0;
             if !self.groups.iter().any(seen) {
-                self.fail(&format!("group {name} has no outcome {}", OUTCOMES[outcome]));
+                self.fail(&format!("group {name} has no outcome {outcome}"));
             }
         }
     }

@@ -3,7 +3,7 @@
 
 use crate::draw::{draw_heavy, Random};
 use crate::model::{revisiting, split_moves_to, Day, MOST_SLOTS};
-use crate::plan::{best, first_cheapest};
+use crate::plan::{allowed, best, first_cheapest};
 use std::ops::RangeInclusive;
 
 /// The widths that a day can show. A slot costs less than 2^30: of 12 trains
@@ -26,14 +26,14 @@ pub fn slot_costs(day: &Day, assignment: &[usize]) -> [usize; MOST_SLOTS] {
 /// The plan of one who keeps only the low bits of what a slot costs.
 fn plan_cut(day: &Day, bits: u32) -> Option<Vec<usize>> {
     let low = |cost: &usize| cost % (1 << bits);
-    first_cheapest(day, |assignment| slot_costs(day, assignment).iter().map(low).sum())
+    first_cheapest(day, allowed, |assignment| slot_costs(day, assignment).iter().map(low).sum())
 }
 
 /// A day whose plan would be another one.
 pub fn draw_shown(random: &mut Random, bits: u32) -> Day {
     loop {
         let day = draw_heavy(random, bits);
-        if plan_cut(&day, bits) != best(&day).map(|(assignment, _)| assignment) {
+        if plan_cut(&day, bits) != best(&day).map(|plan| plan.assignment) {
             return day;
         }
     }

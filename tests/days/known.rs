@@ -1,40 +1,46 @@
 //! What 01 says: its days with known outcome and its examples of refusals; and
-//! days made by hand for the baselines of order 1.
+//! days made by hand for the baselines of order 1. Those of order 4 stand in
+//! known_sets.rs.
 
 use crate::day_file::{HEAD_NAMES, MOVE_NAMES, TRAIN_NAMES};
 
-/// What 01 says of a text.
+/// What 01 says of a text, and 02 of one with groups.
 #[derive(Debug)]
 pub enum Known {
     /// The slots by position; revisits, splits and cost.
     Best(&'static [usize], [usize; 3]),
     /// First slot, last slot and trains bound inside.
     Overbooked([usize; 3]),
+    /// The groups can't be kept: 16.
+    Unkept,
     /// Number and line.
     Refused(usize, usize),
 }
 
 pub struct KnownDay {
     pub name: &'static str,
-    head: &'static str,
-    trains: &'static [&'static str],
-    moves: &'static [&'static str],
+    pub head: &'static str,
+    pub trains: &'static [&'static str],
+    pub moves: &'static [&'static str],
+    /// The lines after the moves.
+    pub rest: &'static [&'static str],
     pub outcome: Known,
 }
 
 impl KnownDay {
     pub fn text(&self) -> Vec<u8> {
-        day_text(self.head, self.trains, self.moves)
+        day_text(self.head, self.trains, &[self.moves, self.rest].concat())
     }
 }
 
-/// The text with these rows; whether it is sound is the rows' affair.
+/// The text with these rows, the moves with whatever follows them; whether it is
+/// sound is the rows' affair.
 pub fn day_text(head: &str, trains: &[&str], moves: &[&str]) -> Vec<u8> {
     let lines = [&[HEAD_NAMES, head, TRAIN_NAMES], trains, &[MOVE_NAMES], moves].concat();
     (lines.join("\n") + "\n").into_bytes()
 }
 
-const P1_HEAD: &str = "4 2 2 1 1";
+pub const P1_HEAD: &str = "4 2 2 1 1";
 pub const P1_TRAINS: &[&str] = &["1 1 2", "2 1 2", "3 1 2", "4 1 2"];
 pub const P1_MOVES: &[&str] = &["1 4 1", "3 1 3", "3 4 5", "4 2 6", "4 3 1"];
 const P6_TRAINS: &[&str] = &["1 1 2", "2 1 2", "3 1 2", "4 2 2"];
@@ -46,7 +52,7 @@ const fn known(
     moves: &'static [&'static str],
     outcome: Known,
 ) -> KnownDay {
-    KnownDay { name, head, trains, moves, outcome }
+    KnownDay { name, head, trains, moves, rest: &[], outcome }
 }
 
 /// P2 and P3 value a given assignment of P1's day: see `KNOWN_VALUES`.
@@ -85,7 +91,7 @@ pub const SMALL_INPUTS: [KnownDay; 6] = [
     known("7: pair before", P1_HEAD, P1_TRAINS, &["3 4 5", "3 1 3"], Known::Refused(7, 10)),
 ];
 
-const TWO: &[&str] = &["3 1 2", "9 1 2"];
+pub const TWO: &[&str] = &["3 1 2", "9 1 2"];
 
 /// What 01, and order 2 of 02 on train numbers, say of the edges and of the
 /// order of the checks.
@@ -142,9 +148,11 @@ pub const TEXTS: [(&str, &str, Known); 8] = [
 /// A day with what first come and the myopic procedure make of it.
 pub struct BaselineDay {
     pub name: &'static str,
-    head: &'static str,
-    trains: &'static [&'static str],
-    moves: &'static [&'static str],
+    pub head: &'static str,
+    pub trains: &'static [&'static str],
+    pub moves: &'static [&'static str],
+    /// The lines after the moves.
+    pub rest: &'static [&'static str],
     pub outcomes: [BaselineOutcome; 2],
 }
 
@@ -154,7 +162,7 @@ pub type BaselineOutcome = (&'static [usize], usize, [usize; 3], i64);
 
 impl BaselineDay {
     pub fn text(&self) -> Vec<u8> {
-        day_text(self.head, self.trains, self.moves)
+        day_text(self.head, self.trains, &[self.moves, self.rest].concat())
     }
 }
 
@@ -165,7 +173,7 @@ const fn made(
     moves: &'static [&'static str],
     outcomes: [BaselineOutcome; 2],
 ) -> BaselineDay {
-    BaselineDay { name, head, trains, moves, outcomes }
+    BaselineDay { name, head, trains, moves, rest: &[], outcomes }
 }
 
 /// Worked out by hand from order 1 and section 4.2 of source 000.

@@ -1,15 +1,16 @@
-//! What the library's two baseline calls have to report, by order 1, and the
-//! comparison with what they do report and leave in lent memory.
+//! What the library's two baseline calls have to report, by orders 1 and 4, and
+//! the comparison with what they do report and leave in lent memory.
 
 use crate::day_file::{read_day, Refusal};
 use crate::lent::{lent_text, returned, Lent, Marks};
-use crate::model::{value, within_tracks, within_windows, Day, Value};
-use crate::plan::{answer, broken, Answer, Interval};
+use crate::model::{value, within_windows, Day, Value};
+use crate::plan::{allowed, answer, broken, Answer, Interval};
 use crate::procedures::{first_come, myopic, Slots};
+use crate::sets::parted;
 use crate::sys;
 
 // ---------------------------------------------------------------------------
-// The report (order 1)
+// The report (orders 1 and 4)
 // ---------------------------------------------------------------------------
 
 /// 0 with revisits, splits, cost and the saving; or the number of a refusal
@@ -22,7 +23,7 @@ pub struct Report {
 }
 
 impl Report {
-    fn refused(refusal: usize, numbers: [usize; 3]) -> Report {
+    pub fn refused(refusal: usize, numbers: [usize; 3]) -> Report {
         Report { refusal, numbers, saving: 0 }
     }
 }
@@ -37,23 +38,38 @@ pub fn planned(text: &[u8]) -> Planned {
         Answer::Overbooked(Interval { first, last, bound }) => {
             Err(Report::refused(9, [first, last, bound]))
         }
+        Answer::Unkept => Err(Report::refused(16, [0; 3])),
         Answer::Plan(plan) => Ok((read_day(text).expect("a day with a plan"), plan.value.cost)),
     }
 }
 
+/// The position of the first train left over, counted from 1.
+pub fn left_over(slots: &Slots) -> Option<usize> {
+    slots.iter().position(Option::is_none).map(|left| left + 1)
+}
+
 /// The assignment of a baseline that leaves no train over.
-fn complete(slots: &Slots) -> Vec<usize> {
+pub fn complete(slots: &Slots) -> Vec<usize> {
     slots.iter().flatten().copied().collect()
+}
+
+/// The numbers of a baseline that leaves no train over, on a day of this least
+/// cost.
+pub fn compared(day: &Day, least: usize, slots: &Slots) -> Report {
+    let Value { revisits, splits, cost } = value(day, &complete(slots));
+    let saving = cost as i64 - least as i64;
+    Report { refusal: 0, numbers: [revisits, splits, cost], saving }
 }
 
 /// The report of slots on a day of this least cost, whatever the slots are.
 pub fn report(day: &Day, least: usize, slots: &Slots) -> Report {
-    if let Some(left) = slots.iter().position(Option::is_none) {
-        return Report::refused(14, [left + 1, 0, 0]);
+    if let Some(left) = left_over(slots) {
+        return Report::refused(14, [left, 0, 0]);
     }
-    let Value { revisits, splits, cost } = value(day, &complete(slots));
-    let saving = cost as i64 - least as i64;
-    Report { refusal: 0, numbers: [revisits, splits, cost], saving }
+    if !parted(day, &complete(slots)).is_empty() {
+        return Report::refused(14, [0; 3]);
+    }
+    compared(day, least, slots)
 }
 
 /// A baseline's complete assignment is allowed, hence no cheaper than the plan;
@@ -61,8 +77,8 @@ pub fn report(day: &Day, least: usize, slots: &Slots) -> Report {
 fn sound_report(day: &Day, least: usize, slots: &Slots) -> Report {
     let report = report(day, least, slots);
     let assignment = complete(slots);
-    let allowed = within_windows(day, &assignment) && within_tracks(day, &assignment);
-    if report.refusal == 0 && (report.saving < 0 || !allowed) {
+    let sound = || within_windows(day, &assignment) && allowed(day, &assignment);
+    if report.refusal == 0 && (report.saving < 0 || !sound()) {
         broken(&format!("{day:?} of least cost {least} has {slots:?}, {report:?}"));
     }
     report

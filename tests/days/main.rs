@@ -22,7 +22,8 @@
 //! Words: an assignment is 01's row of slots, an interval its stretch, a mask
 //! its set number, a baseline a yardstick of order 1 in 02. A row is here
 //! a row of values in a file, but in the parts on the calls the memory that
-//! yard.h names row, any bytes.
+//! yard.h names row, any bytes. A group is one of trains (order 4), but in the
+//! parts that count and print what was run one of texts.
 //!
 //! Build: rt staticlib yard
 //!        rustc -O --edition 2021 -L target/staticlib -o target/tests/days tests/days/main.rs
@@ -36,17 +37,24 @@ mod call_workspace;
 mod calls;
 mod case;
 mod damage;
+mod damage_sets;
 mod day_file;
 mod draft;
 mod draw;
+mod draw_sets;
 mod generated;
 mod groups;
 mod header;
 mod heavy;
 mod known;
+mod known_sets;
 mod lent;
 mod library;
+mod misjudgings;
+mod misplannings;
+mod misreaders;
 mod misreadings;
+mod misreports;
 mod misvaluings;
 mod model;
 mod plan;
@@ -58,6 +66,8 @@ mod seen;
 mod self_baselines;
 mod self_calls;
 mod self_check;
+mod self_sets;
+mod sets;
 mod special;
 mod stack;
 mod sys;

@@ -5,7 +5,7 @@
 use crate::procedures::{Point, Select, Set};
 use std::cmp::Reverse;
 
-pub const MISREADINGS: [(&str, Select); 9] = [
+pub const MISREADINGS: [(&str, Select); 11] = [
     ("boxes from earlier slots left out (Table 2)", earlier_left_out),
     ("boxes from the current slot counted", current_counted),
     ("only boxes from earlier slots counted", only_earlier),
@@ -15,6 +15,8 @@ pub const MISREADINGS: [(&str, Select); 9] = [
     ("POS holds only trains that may be chosen", only_candidates),
     ("windows ignored", windows_ignored),
     ("highest position on a tie", highest_on_tie),
+    ("a train may not come after its group's slot", group_passed_left_out),
+    ("trains of a group in the slot come first", group_first),
 ];
 
 /// The candidate of least increase, the increase being misread.
@@ -81,4 +83,23 @@ fn windows_ignored(point: &Point) -> Option<usize> {
 
 fn highest_on_tie(point: &Point) -> Option<usize> {
     point.candidates().into_iter().min_by_key(|&i| (point.increase(i), Reverse(i)))
+}
+
+/// Whether train i is in a group that has one of these trains.
+fn grouped_with(point: &Point, i: usize, trains: &Set) -> bool {
+    let group = |j: usize| point.day.trains[j].group;
+    group(i) > 0 && trains.iter().any(|&j| group(j) == group(i))
+}
+
+pub fn group_passed_left_out(point: &Point) -> Option<usize> {
+    let all: Set = (0..point.day.trains.len()).collect();
+    let earlier = &(&all - &point.pos) - &point.in_t;
+    let mut candidates = point.candidates();
+    candidates.retain(|&i| !grouped_with(point, i, &earlier));
+    candidates.into_iter().min_by_key(|&i| point.increase(i))
+}
+
+pub fn group_first(point: &Point) -> Option<usize> {
+    let candidates = point.candidates().into_iter();
+    candidates.min_by_key(|&i| (!grouped_with(point, i, &point.in_t), point.increase(i)))
 }

@@ -1,7 +1,7 @@
 //! The day, and the valuing and the order of assignments (01, The model).
 
 // ---------------------------------------------------------------------------
-// The day (01, The model; train numbers by order 2 of 02)
+// The day (01, The model; train numbers by order 2 of 02, groups by order 4)
 // ---------------------------------------------------------------------------
 
 pub const MOST_TRAINS: usize = 12;
@@ -10,12 +10,14 @@ pub const MOST_SLOTS: usize = 8;
 pub const MOST_WEIGHT: usize = 65535;
 pub const MOST_TRAIN_NUMBER: usize = 99_999;
 pub const MOST_BOXES: usize = 255;
+pub const MOST_GROUP: usize = 12;
 
 /// The program reads no more of its input, and their reading decides.
 pub const MOST_BYTES_READ: usize = 4096;
 
-/// The greatest accepted file.
-pub const MOST_BYTES_ACCEPTED: usize = 2317;
+/// The greatest accepted file, and the greatest without groups.
+pub const MOST_BYTES_ACCEPTED: usize = 2437;
+pub const MOST_BYTES_UNGROUPED: usize = 2317;
 
 /// The greatest plan file.
 pub const MOST_BYTES_PRINTED: usize = 148;
@@ -25,6 +27,8 @@ pub struct Train {
     pub number: usize,
     pub first: usize,
     pub last: usize,
+    /// The group's number, 0 where the train is in none.
+    pub group: usize,
 }
 
 /// `boxes[i][j]` is A(i, j): what position i receives from position j.

@@ -2,6 +2,7 @@
 
 use crate::day_file::{read_day, Refusal};
 use crate::model::{precedes, value, within_tracks, Day, Train, Value, MOST_BYTES_READ};
+use crate::sets::{has_groups, keeps_groups, ungrouped};
 
 // ---------------------------------------------------------------------------
 // Planning by trying all assignments (01, The calls)
@@ -33,13 +34,24 @@ fn step(day: &Day, assignment: &mut [usize]) -> bool {
     false
 }
 
-/// The first of the cheapest allowed assignments by the given cost; each is
-/// tried.
-pub fn first_cheapest(day: &Day, cost: impl Fn(&[usize]) -> usize) -> Option<Vec<usize>> {
+/// Whether an assignment within the windows is allowed.
+pub type Allowed = fn(&Day, &[usize]) -> bool;
+
+pub fn allowed(day: &Day, assignment: &[usize]) -> bool {
+    within_tracks(day, assignment) && keeps_groups(day, assignment)
+}
+
+/// The first of the cheapest assignments within the windows that are allowed,
+/// by the given cost; each is tried.
+pub fn first_cheapest(
+    day: &Day,
+    allowed: Allowed,
+    cost: impl Fn(&[usize]) -> usize,
+) -> Option<Vec<usize>> {
     let mut assignment: Vec<usize> = day.trains.iter().map(|train| train.first).collect();
     let mut best: Option<(Vec<usize>, usize)> = None;
     loop {
-        if within_tracks(day, &assignment) {
+        if allowed(day, &assignment) {
             let cost = cost(&assignment);
             let better = match &best {
                 None => true,
@@ -56,11 +68,17 @@ pub fn first_cheapest(day: &Day, cost: impl Fn(&[usize]) -> usize) -> Option<Vec
     }
 }
 
-/// The best plan and its numbers.
-pub fn best(day: &Day) -> Option<(Vec<usize>, Value)> {
-    let assignment = first_cheapest(day, |assignment| value(day, assignment).cost)?;
+/// The best plan.
+pub fn best(day: &Day) -> Option<Plan> {
+    best_by(day, allowed)
+}
+
+/// The best plan among assignments of the caller's choice.
+pub fn best_by(day: &Day, allowed: Allowed) -> Option<Plan> {
+    let assignment = first_cheapest(day, allowed, |assignment| value(day, assignment).cost)?;
+    let numbers = day.trains.iter().map(|train| train.number).collect();
     let value = value(day, &assignment);
-    Some((assignment, value))
+    Some(Plan { numbers, assignment, value })
 }
 
 /// The overbooked intervals, by their first slots and for each by their last.
@@ -80,7 +98,7 @@ pub fn overbooked(day: &Day) -> Vec<Interval> {
 
 /// The overbooked interval with the smallest first slot and for it the
 /// smallest last slot.
-fn first_overbooked(day: &Day) -> Option<Interval> {
+pub fn first_overbooked(day: &Day) -> Option<Interval> {
     overbooked(day).first().copied()
 }
 
@@ -90,18 +108,19 @@ pub enum Answer {
     Plan(Plan),
     Refused(Refusal),
     Overbooked(Interval),
+    /// No interval is overbooked, and still the groups can't be kept.
+    Unkept,
 }
 
-/// A day has no allowed assignment exactly when an interval is overbooked.
-/// The two are found here independently; if they disagree, it is this test
-/// program that is wrong, and nothing it says can be relied on.
-fn plan(day: &Day) -> Answer {
+/// A day has no assignment that is allowed but for its groups exactly when an
+/// interval is overbooked. The two are found here independently; if they
+/// disagree, it is this test program that is wrong, and nothing it says can be
+/// relied on.
+pub fn plan(day: &Day) -> Answer {
     match (best(day), first_overbooked(day)) {
-        (Some((assignment, value)), None) => {
-            let numbers = day.trains.iter().map(|train| train.number).collect();
-            Answer::Plan(Plan { numbers, assignment, value })
-        }
+        (Some(plan), None) => Answer::Plan(plan),
         (None, Some(interval)) => Answer::Overbooked(interval),
+        (None, None) if has_groups(day) && best(&ungrouped(day)).is_some() => Answer::Unkept,
         (found, interval) => broken(&format!("{day:?} has {found:?}, yet {interval:?}")),
     }
 }
@@ -145,6 +164,7 @@ pub fn write_answer(answer: &Answer) -> Vec<u8> {
         Answer::Overbooked(Interval { first, last, bound }) => {
             format!("refusal first last trains\n9 {first} {last} {bound}\n")
         }
+        Answer::Unkept => "refusal line\n16 0\n".to_string(),
     };
     text.into_bytes()
 }

@@ -4,6 +4,8 @@
 use crate::model::{Day, Train, MOST_SLOTS};
 use std::collections::BTreeSet;
 
+// By order 4 only their result is judged: neither looks at the groups.
+
 /// The slot of each train by position, or none where it is left without one.
 pub type Slots = Vec<Option<usize>>;
 

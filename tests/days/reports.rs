@@ -4,21 +4,26 @@
 use crate::groups::{Tests, MOST_DIFFERENCES};
 use crate::library::{planned, report, Planned, Report, BASELINES};
 use crate::misreadings::MISREADINGS;
+use crate::misreports::{MISPLACINGS, MISREPORTS};
 use crate::procedures::myopic_by;
 use crate::process::escaped;
-use crate::seen::LEAST_SEEN;
+use crate::seen::{Seen, LEAST_SEEN};
 
-/// A baseline as cheap as the plan, a dearer one, and the refusals.
-const OUTCOMES: [&str; 11] = ["equal", "dearer", "1", "2", "3", "4", "5", "6", "7", "9", "14"];
+/// A baseline as cheap as the plan, a dearer one, and the refusals, 14 with
+/// a position and with 0.
+const OUTCOMES: [&str; 14] =
+    ["equal", "dearer", "1", "2", "3", "4", "5", "6", "7", "9", "14", "14 0", "15", "16"];
 
 /// The place of a report in `OUTCOMES`.
 fn outcome(report: &Report) -> usize {
-    match report.refusal {
-        0 => usize::from(report.saving > 0),
-        9 => 9,
-        14 => 10,
-        reading => reading + 1,
-    }
+    let number = report.refusal.to_string();
+    let name = match (report.refusal, report.numbers[0]) {
+        (0, _) if report.saving == 0 => "equal",
+        (0, _) => "dearer",
+        (14, 0) => "14 0",
+        _ => &number,
+    };
+    OUTCOMES.iter().position(|outcome| *outcome == name).expect("one of the outcomes")
 }
 
 struct Group {
@@ -35,13 +40,27 @@ pub struct Run {
     /// Days on which first come and the myopic procedure report differently.
     parted: usize,
     /// Days on which each misreading reports otherwise than the paper.
-    told: [usize; MISREADINGS.len()],
+    told: Seen,
+}
+
+/// A mistake in the report of one of the baselines.
+fn misreported(baseline: &str, mistake: &str) -> String {
+    format!("{baseline}: {mistake}")
+}
+
+/// The misreadings that have to be told apart from the paper.
+fn misreadings() -> Vec<String> {
+    let myopic = MISREADINGS.iter().map(|(name, _)| name.to_string());
+    let first_come = MISPLACINGS.iter().map(|(name, _)| name.to_string());
+    let both = BASELINES
+        .iter()
+        .flat_map(|baseline| MISREPORTS.iter().map(|(name, _)| misreported(baseline.name, name)));
+    myopic.chain(first_come).chain(both).collect()
 }
 
 impl Run {
     pub fn new() -> Run {
-        let told = [0; MISREADINGS.len()];
-        Run { tests: Tests::new(""), groups: Vec::new(), parted: 0, told }
+        Run { tests: Tests::new(""), groups: Vec::new(), parted: 0, told: Seen::default() }
     }
 
     pub fn begin(&mut self, name: &'static str) {
@@ -73,12 +92,24 @@ impl Run {
         self.tell_apart(&planned, &reports);
     }
 
-    fn tell_apart(&mut self, planned: &Planned, [first_come, myopic]: &[Report; 2]) {
+    fn tell_apart(&mut self, planned: &Planned, reports: &[Report; 2]) {
         let Ok((day, least)) = planned else { return };
+        let [first_come, myopic] = reports;
         self.parted += usize::from(first_come != myopic);
-        for (told, (_, select)) in self.told.iter_mut().zip(MISREADINGS) {
+        for (name, select) in MISREADINGS {
             let misread = report(day, *least, &myopic_by(day, select));
-            *told += usize::from(misread != *myopic);
+            self.told.note_if(misread != *myopic, name);
+        }
+        for (name, misplace) in MISPLACINGS {
+            let misread = report(day, *least, &misplace(day));
+            self.told.note_if(misread != *first_come, name);
+        }
+        for (baseline, report) in BASELINES.iter().zip(reports) {
+            let slots = (baseline.slots)(day);
+            for (name, misreport) in MISREPORTS {
+                let misread = misreport(day, *least, &slots);
+                self.told.note_if(misread != *report, &misreported(baseline.name, name));
+            }
         }
     }
 
@@ -97,8 +128,8 @@ impl Run {
             }
         }
         self.require(self.parted, "first come and myopic differ");
-        for (told, (name, _)) in self.told.into_iter().zip(MISREADINGS) {
-            self.require(told, name);
+        for name in misreadings() {
+            self.require(self.told.count(&name), &name);
         }
     }
 
@@ -118,9 +149,9 @@ impl Run {
             }
         }
         println!("days on which first come and myopic differ: {}", self.parted);
-        println!("days on which the myopic procedure would differ, were it misread:");
-        for (told, (name, _)) in self.told.iter().zip(MISREADINGS) {
-            println!("{told:>6} {name}");
+        println!("days on which a report would differ, were the papers misread:");
+        for name in misreadings() {
+            println!("{:>6} {name}", self.told.count(&name));
         }
     }
 

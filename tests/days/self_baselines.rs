@@ -4,8 +4,9 @@
 use crate::day_file::read_day;
 use crate::groups::Tests;
 use crate::known::{BaselineDay, BASELINE_DAYS};
+use crate::known_sets::GROUPED_BASELINE_DAYS;
 use crate::library::{planned, Report, BASELINES};
-use crate::misreadings::{earlier_left_out, passed_leave};
+use crate::misreadings::{earlier_left_out, group_first, group_passed_left_out, passed_leave};
 use crate::model::Day;
 use crate::procedures::{myopic_by, Point, Select, Set, Slots};
 
@@ -35,15 +36,19 @@ fn shown(slots: Slots) -> Vec<usize> {
     slots.into_iter().map(Option::unwrap_or_default).collect()
 }
 
+fn hand_made_days() -> impl Iterator<Item = &'static BaselineDay> {
+    BASELINE_DAYS.iter().chain(&GROUPED_BASELINE_DAYS)
+}
+
 fn hand_made(name: &str) -> (Vec<u8>, Day) {
     let named = |day: &&BaselineDay| day.name == name;
-    let text = BASELINE_DAYS.iter().find(named).expect("a day of this name").text();
+    let text = hand_made_days().find(named).expect("a day of this name").text();
     let day = read_day(&text).expect("a good day");
     (text, day)
 }
 
 fn check_days(tests: &mut Tests) {
-    for known in &BASELINE_DAYS {
+    for known in hand_made_days() {
         let (text, day) = hand_made(known.name);
         for (baseline, (slots, refusal, numbers, saving)) in BASELINES.iter().zip(known.outcomes) {
             let name = format!("{}, {}", known.name, baseline.name);
@@ -57,10 +62,12 @@ fn check_days(tests: &mut Tests) {
 }
 
 /// Misreadings that take another way, or by 01 the same, on days made by hand.
-const MISREAD: [(&str, Select, &[usize]); 3] = [
+const MISREAD: [(&str, Select, &[usize]); 5] = [
     ("P1", earlier_left_out, &[1, 1, 2, 2]),
     ("boxes from earlier slots count", earlier_left_out, &[1, 2, 3]),
     ("window passed, still waiting", passed_leave, &[2, 3, 1, 0]),
+    ("parted though places are free", group_passed_left_out, &[1, 1, 0]),
+    ("parted though places are free", group_first, &[1, 2, 1]),
 ];
 
 fn check_misreadings(tests: &mut Tests) {

@@ -8,12 +8,13 @@ use crate::day_file::read_day;
 use crate::groups::Tests;
 use crate::header::{prototypes, VERSION};
 use crate::known::{day_text, KnownDay, KNOWN_DAYS, P1_MOVES, P1_TRAINS};
+use crate::known_sets::GROUPED_DAYS;
 use crate::lent::{lent_text, Lent, Marks};
 use crate::valuing::valued;
 
 fn known(name: &str) -> Vec<u8> {
     let named = |day: &&KnownDay| day.name == name;
-    KNOWN_DAYS.iter().find(named).expect("a day of this name").text()
+    KNOWN_DAYS.iter().chain(&GROUPED_DAYS).find(named).expect("a day of this name").text()
 }
 
 /// Rows on P1's day, 2 tracks and 2 slots; the refusal and what it carries.
@@ -51,13 +52,16 @@ fn check_valuing(tests: &mut Tests) {
 /// the numbers and how many slots are written.
 type Planning = (&'static str, bool, usize, usize, [usize; 3], usize);
 
-const PLANNINGS: [Planning; 9] = [
+const PLANNINGS: [Planning; 12] = [
     ("P1", true, 3, 0, [1, 7, 8], 4),
     ("P1", false, 3, 10, [0, 0, 0], 0),
     ("P1", true, 2, 10, [0, 0, 0], 0),
     ("P9", true, 3, 9, [1, 1, 3], 0),
     ("P9", false, 3, 10, [0, 0, 0], 0),
     ("P9", true, 0, 10, [0, 0, 0], 0),
+    ("a group larger than G", true, 3, 16, [0, 0, 0], 0),
+    ("a group larger than G", false, 3, 10, [0, 0, 0], 0),
+    ("a group larger than G", true, 2, 10, [0, 0, 0], 0),
     ("none", true, 5, 1, [1, 0, 0], 0),
     ("none", false, 5, 1, [1, 0, 0], 0),
     ("none", false, 2, 10, [0, 0, 0], 0),

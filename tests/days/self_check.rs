@@ -9,12 +9,13 @@ use crate::known::{
 };
 use crate::model::{
     precedes, value, within_tracks, within_windows, Value, MOST_BYTES_ACCEPTED, MOST_BYTES_PRINTED,
-    MOST_BYTES_READ,
+    MOST_BYTES_READ, MOST_BYTES_UNGROUPED,
 };
 use crate::plan::{answer, best, expected, Answer};
 use crate::self_baselines::check_baselines;
 use crate::self_calls::check_calls;
-use crate::special::{dearest_day, greatest_day, last_move, padded};
+use crate::self_sets::check_sets;
+use crate::special::{dearest_day, greatest_day, greatest_ungrouped, last_move, padded};
 
 /// 01's two files of case P1, as it prints them.
 const P1_FILE: &str = "trains tracks slots revisit split
@@ -42,6 +43,7 @@ fn agrees(answer: &Answer, known: &Known) -> bool {
         (Answer::Overbooked(found), Known::Overbooked(numbers)) => {
             [found.first, found.last, found.bound] == *numbers
         }
+        (Answer::Unkept, Known::Unkept) => true,
         (Answer::Refused(refusal), &Known::Refused(number, line)) => {
             *refusal == Refusal { number, line }
         }
@@ -57,7 +59,7 @@ impl Tests<'_> {
         }
     }
 
-    fn check_text(&mut self, name: &str, text: &[u8], known: &Known) {
+    pub fn check_text(&mut self, name: &str, text: &[u8], known: &Known) {
         let answer = answer(text);
         self.check(agrees(&answer, known), &format!("{name}: {answer:?}, but 01 says {known:?}"));
     }
@@ -97,9 +99,9 @@ fn check_slot_costs(tests: &mut Tests) {
     tests.check(costs[..2] == [602_004_510, 601_611_300], "the dearest slot costs otherwise");
     for seed in 0..200 {
         let day = draw_day(&mut Random(seed), DAMAGED_MOST);
-        if let Some((assignment, value)) = best(&day) {
-            let sum: usize = slot_costs(&day, &assignment).iter().sum();
-            tests.check(sum == value.cost, &format!("seed {seed}: the slots cost {sum}"));
+        if let Some(plan) = best(&day) {
+            let sum: usize = slot_costs(&day, &plan.assignment).iter().sum();
+            tests.check(sum == plan.value.cost, &format!("seed {seed}: the slots cost {sum}"));
         }
     }
 }
@@ -115,12 +117,19 @@ fn check_sizes(tests: &mut Tests) {
     let greatest = write_day(&greatest_day());
     tests.check(greatest.len() == MOST_BYTES_ACCEPTED, "the greatest day has another length");
     tests.check(read_day(&greatest) == Ok(greatest_day()), "the greatest day reads otherwise");
+    tests.check(best(&greatest_day()).is_some(), "the greatest day has no plan");
+    let unended = &greatest[..greatest.len() - 1];
+    tests.check_text("no byte 10 at the end", unended, &Known::Refused(2, 161));
+    let longer = padded(&greatest, b"12 99999\n", 2 * MOST_BYTES_READ);
+    tests.check_text("a 13th row of a group", &longer, &Known::Refused(15, 162));
+    let ungrouped = write_day(&greatest_ungrouped());
+    tests.check(ungrouped.len() == MOST_BYTES_UNGROUPED, "without groups the length is another");
+    let unended = &ungrouped[..ungrouped.len() - 1];
+    tests.check_text("no byte 10 after the moves", unended, &Known::Refused(2, 148));
+    let longer = padded(&ungrouped, last_move().as_bytes(), 2 * MOST_BYTES_READ);
+    tests.check_text("a 133rd move", &longer, &Known::Refused(7, 149));
     let plan = expected(&write_day(&dearest_day()));
     tests.check(plan.len() == MOST_BYTES_PRINTED, "the greatest plan file has another length");
-    let unended = &greatest[..greatest.len() - 1];
-    tests.check_text("no byte 10 at the end", unended, &Known::Refused(2, 148));
-    let longer = padded(&greatest, last_move().as_bytes(), 2 * MOST_BYTES_READ);
-    tests.check_text("a 133rd move", &longer, &Known::Refused(7, 149));
 }
 
 pub fn check_self() -> bool {
@@ -137,5 +146,6 @@ pub fn check_self() -> bool {
     check_sizes(&mut tests);
     check_baselines(&mut tests);
     check_calls(&mut tests);
+    check_sets(&mut tests);
     tests.finish()
 }

@@ -1,23 +1,24 @@
 //! Special texts: the greatest day, tiny, binary and long texts, limits.
 
-use crate::day_file::{read_day, write_day, HEAD_NAMES};
+use crate::day_file::{read_day, write_day, GROUP_NAMES, HEAD_NAMES};
 use crate::draft::{greatest_values, Draft};
 use crate::draw::Random;
 use crate::known::KNOWN_DAYS;
 use crate::model::{
-    Day, Train, MOST_BOXES, MOST_SLOTS, MOST_TRACKS, MOST_TRAINS, MOST_TRAIN_NUMBER, MOST_WEIGHT,
+    Day, Train, MOST_BOXES, MOST_GROUP, MOST_SLOTS, MOST_TRACKS, MOST_TRAINS, MOST_TRAIN_NUMBER,
+    MOST_WEIGHT,
 };
 
-/// The greatest file that is accepted: 12 trains of the greatest numbers, all
-/// pairs, with windows narrow enough to try all assignments.
-pub fn greatest_day() -> Day {
+/// The greatest file without groups that is accepted: 12 trains of the greatest
+/// numbers, all pairs, with windows narrow enough to try all assignments.
+pub fn greatest_ungrouped() -> Day {
     let mut boxes = [[MOST_BOXES; MOST_TRAINS]; MOST_TRAINS];
     for (position, row) in boxes.iter_mut().enumerate() {
         row[position] = 0;
     }
     let window = |k: usize| (1 + k % 7, 2 + k % 7);
     let number = |k: usize| MOST_TRAIN_NUMBER + 1 - MOST_TRAINS + k;
-    let train = |k| Train { number: number(k), first: window(k).0, last: window(k).1 };
+    let train = |k| Train { number: number(k), first: window(k).0, last: window(k).1, group: 0 };
     Day {
         tracks: MOST_TRACKS,
         slots: MOST_SLOTS,
@@ -28,18 +29,35 @@ pub fn greatest_day() -> Day {
     }
 }
 
-/// The last row of the greatest day; a second time it is a move too many.
+/// The greatest file that is accepted: each train besides in a group whose
+/// number has two digits. Group 10 has one slot, 11 and 12 may meet or not.
+pub fn greatest_day() -> Day {
+    let mut day = greatest_ungrouped();
+    for (position, train) in day.trains.iter_mut().enumerate() {
+        train.group = 10 + position % 3;
+        (train.first, train.last) = match train.group {
+            10 if position % 2 == 0 => (1, 2),
+            10 => (2, 3),
+            11 => (3, 4),
+            _ => (4, 5),
+        };
+    }
+    day
+}
+
+/// The last move of the greatest day; a second time it is a move too many.
 pub fn last_move() -> String {
     format!("{MOST_TRAIN_NUMBER} {} {MOST_BOXES}\n", MOST_TRAIN_NUMBER - 1)
 }
 
 /// As dear as a day can be: all pairs of trains in different slots as far as
-/// there are slots, and each train but the last slot's has to come back.
+/// there are slots, and each train but the last slot's has to come back. Those
+/// that share a slot are a group.
 pub fn dearest_day() -> Day {
-    let mut day = greatest_day();
+    let mut day = greatest_ungrouped();
     for (position, train) in day.trains.iter_mut().enumerate() {
         let slot = 1 + position % MOST_SLOTS;
-        (train.first, train.last) = (slot, slot);
+        (train.first, train.last, train.group) = (slot, slot, slot);
     }
     day
 }
@@ -80,7 +98,8 @@ fn binary_texts() -> Texts {
 }
 
 pub fn line_end_texts() -> Texts {
-    let day = String::from_utf8(write_day(&greatest_day())).expect("ASCII");
+    let text = |day: &Day| String::from_utf8(write_day(day)).expect("ASCII");
+    let day = text(&greatest_day());
     let variants = [
         ("byte 13 before each byte 10", day.replace('\n', "\r\n")),
         ("byte 13 for each byte 10", day.replace('\n', "\r")),
@@ -96,15 +115,18 @@ pub fn line_end_texts() -> Texts {
         ("without spaces", day.replace(' ', "")),
         ("full-width digits", day.replace('1', "\u{ff11}")),
         ("greatest day", day.clone()),
+        ("greatest day without groups", text(&greatest_ungrouped())),
     ];
     variants.map(|(name, text)| (name.to_string(), text.into_bytes())).to_vec()
 }
 
-/// P1 with each field of a row at its limits, beside them and far outside.
+/// P1, trains 1 and 3 being groups of one, with each field of a row at its
+/// limits, beside them and far outside.
 fn limit_texts() -> Texts {
-    let p1 = read_day(&KNOWN_DAYS[0].text()).expect("a good day");
+    let mut p1 = read_day(&KNOWN_DAYS[0].text()).expect("a good day");
+    (p1.trains[0].group, p1.trains[2].group) = (1, MOST_GROUP);
     let mut texts = vec![("dearest day".to_string(), write_day(&dearest_day()))];
-    for line in [1, 3, 8] {
+    for line in [1, 3, 8, 14, 15] {
         for (field, limit) in greatest_values(&Draft::new(p1.clone()), line).into_iter().enumerate()
         {
             for value in [0, 1, limit - 1, limit, limit + 1, 65536, 99999, 100_000] {
@@ -122,13 +144,16 @@ fn limit_texts() -> Texts {
 /// and again, so that the cut falls inside a line or just after one.
 pub fn long_texts() -> Texts {
     let greatest = write_day(&greatest_day());
+    let ungrouped = write_day(&greatest_ungrouped());
     let small = KNOWN_DAYS[0].text();
     let again = last_move().into_bytes();
-    let units: [&[u8]; 7] = [b"\n", b" ", b"1", b"x", &again, b"1 2 3\n", b"\0"];
+    let names = format!("{GROUP_NAMES}\n").into_bytes();
+    let units: [&[u8]; 9] = [b"\n", b" ", b"1", b"x", &again, b"1 2 3\n", b"12 1\n", &names, b"\0"];
+    let starts = [("greatest day", &greatest), ("no groups", &ungrouped), ("P1", &small)];
     let mut texts = Vec::new();
     for length in [4090, 4095, 4096, 4097, 5000, 70_000] {
         for unit in units {
-            for (name, start) in [("greatest day", &greatest), ("P1", &small)] {
+            for (name, start) in starts {
                 let what = format!("{name} and \"{}\" up to {length}", unit.escape_ascii());
                 texts.push((what, padded(start, unit, length)));
             }
@@ -158,7 +183,7 @@ fn cut_texts() -> Texts {
 
 /// The greatest day with a 133rd move of each kind that 01 names.
 fn move_too_many_texts() -> Texts {
-    let day = write_day(&greatest_day());
+    let day = write_day(&greatest_ungrouped());
     let (most, above) = (MOST_TRAIN_NUMBER, MOST_TRAIN_NUMBER + 1);
     let moves = [
         last_move(),
@@ -172,6 +197,23 @@ fn move_too_many_texts() -> Texts {
     moves.iter().map(|row| (format!("133rd move {}", row.trim_end()), text(row))).collect()
 }
 
+/// The greatest day with a row after the twelve of its groups.
+fn group_row_too_many_texts() -> Texts {
+    let day = write_day(&greatest_day());
+    let most = MOST_TRAIN_NUMBER;
+    let rows = [
+        format!("{MOST_GROUP} {most}\n"),
+        format!("{MOST_GROUP} {}\n", most - 1),
+        format!("{} {most}\n", MOST_GROUP + 1),
+        format!("{MOST_GROUP} 1\n"),
+        format!("{MOST_GROUP}\n"),
+        format!("{GROUP_NAMES}\n"),
+        last_move(),
+    ];
+    let text = |row: &str| [&day, row.as_bytes()].concat();
+    rows.iter().map(|row| (format!("13th group row {}", row.trim_end()), text(row))).collect()
+}
+
 pub fn special_texts() -> Texts {
     let kinds = [
         tiny_texts(),
@@ -181,6 +223,7 @@ pub fn special_texts() -> Texts {
         long_texts(),
         cut_texts(),
         move_too_many_texts(),
+        group_row_too_many_texts(),
     ];
     kinds.into_iter().flatten().collect()
 }

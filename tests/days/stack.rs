@@ -8,7 +8,7 @@ use crate::groups::Tests;
 use crate::header::{CHOICE_WORDS, COST_WORDS};
 use crate::library::{planned, BASELINES};
 use crate::seen::Seen;
-use crate::special::{dearest_day, greatest_day};
+use crate::special::{dearest_day, greatest_day, greatest_ungrouped};
 use std::process::Command;
 use std::thread::Builder;
 
@@ -21,7 +21,7 @@ const AREAS_LENT: &str = "yard_plan_in_workspace";
 const AREAS: usize = COST_WORDS * size_of::<u64>() + CHOICE_WORDS * size_of::<u16>();
 
 /// What a thread and the comparison take besides.
-const OWN: usize = 16 << 10;
+const OWN: usize = 12 << 10;
 
 fn names() -> impl Iterator<Item = &'static str> {
     CALLS.iter().map(|call| call.name).chain(BASELINES.iter().map(|baseline| baseline.name))
@@ -47,10 +47,9 @@ pub fn little_stack(name: &str) -> bool {
     }
     let stack = if name == AREAS_LENT { AREAS - OWN } else { STACK };
     let name = name.to_string();
-    let run = move || {
-        let texts = [greatest_day(), dearest_day()].map(|day| write_day(&day));
-        texts.iter().try_for_each(|text| compare(&name, text))
-    };
+    let days = [greatest_day(), greatest_ungrouped(), dearest_day()];
+    let texts = days.map(|day| write_day(&day));
+    let run = move || texts.iter().try_for_each(|text| compare(&name, text));
     let thread = Builder::new().stack_size(stack + OWN).spawn(run);
     match thread.map(|thread| thread.join()) {
         Ok(Ok(Ok(()))) => true,

@@ -3,14 +3,17 @@
 
 use crate::damage::draw_damaged;
 use crate::day_file::{read_day, write_day};
-use crate::draw::{draw_day, draw_sound, Random, DAMAGED_MOST};
+use crate::draw::{draw_day, draw_grouped, draw_sound, Random, DAMAGED_MOST};
 use crate::heavy::{draw_shown, SHOWN_BITS};
 use crate::known::{EDGES, KNOWN_DAYS, SMALL_INPUTS, TEXTS};
+use crate::known_sets::{GROUPED_DAYS, GROUP_EDGES, GROUP_TEXTS};
+use crate::model::Day;
 use crate::plan::broken;
 use crate::process::escaped;
-use crate::special::{greatest_day, last_move, padded};
+use crate::special::{greatest_day, greatest_ungrouped, last_move, padded};
 
 const SOUND_DAYS: usize = 2500;
+const GROUPED_DAYS_DRAWN: usize = 1500;
 const DAMAGED_TEXTS: usize = 4000;
 const HEAVY_DAYS: usize = 8;
 const PIECED_TEXTS: usize = 24;
@@ -19,26 +22,39 @@ const SOUND_SEED: u64 = 1_000_000;
 const DAMAGED_SEED: u64 = 2_000_000;
 const PIECES_SEED: u64 = 3_000_000;
 const HEAVY_SEED: u64 = 8_000_000;
+const GROUPED_SEED: u64 = 11_000_000;
 
 /// How to find a text again, and the text.
 pub type Named = (String, Vec<u8>);
 
 pub fn known_texts() -> impl Iterator<Item = Named> {
     let days = KNOWN_DAYS.iter().chain(&SMALL_INPUTS).chain(&EDGES);
+    let days = days.chain(&GROUPED_DAYS).chain(&GROUP_EDGES);
     let days = days.map(|day| (day.name.to_string(), day.text()));
-    days.chain(TEXTS.iter().map(|(name, text, _)| (name.to_string(), text.as_bytes().to_vec())))
+    let texts = TEXTS.iter().chain(&GROUP_TEXTS);
+    days.chain(texts.map(|(name, text, _)| (name.to_string(), text.as_bytes().to_vec())))
+}
+
+/// The text of a drawn day, which has to read back as that day.
+fn drawn(seed: u64, day: &Day) -> Named {
+    let text = write_day(day);
+    if read_day(&text).as_ref() != Ok(day) {
+        broken(&format!("{day:?} is written as \"{}\"", escaped(&text)));
+    }
+    (format!("seed {seed}"), text)
 }
 
 pub fn sound_texts() -> impl Iterator<Item = Named> {
     (0..SOUND_DAYS).map(|index| {
         let seed = SOUND_SEED + index as u64;
-        let day = draw_sound(&mut Random(seed), index);
-        let text = write_day(&day);
-        if read_day(&text).as_ref() != Ok(&day) {
-            broken(&format!("{day:?} is written as \"{}\"", escaped(&text)));
-        }
-        (format!("seed {seed}"), text)
+        drawn(seed, &draw_sound(&mut Random(seed), index))
     })
+}
+
+/// Days with groups of trains.
+pub fn grouped_texts() -> impl Iterator<Item = Named> {
+    let seeds = (GROUPED_SEED..).take(GROUPED_DAYS_DRAWN);
+    seeds.map(|seed| drawn(seed, &draw_grouped(&mut Random(seed), DAMAGED_MOST)))
 }
 
 /// For each width days on which a sum of so many bits would show.
@@ -65,7 +81,7 @@ pub fn pieced_texts() -> impl Iterator<Item = (Named, Random)> {
         let mut random = Random(seed);
         let text = match index % 6 {
             0 => write_day(&greatest_day()),
-            1 => padded(&write_day(&greatest_day()), last_move().as_bytes(), 6000),
+            1 => padded(&write_day(&greatest_ungrouped()), last_move().as_bytes(), 6000),
             2 => draw_damaged(&mut random).1,
             _ => write_day(&draw_day(&mut random, DAMAGED_MOST)),
         };

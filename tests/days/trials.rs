@@ -2,7 +2,10 @@
 //! several at once. They are bytes, for the call takes any.
 
 use crate::draw::Random;
-use crate::model::{within_tracks, Day, Train};
+use crate::library::complete;
+use crate::model::{within_tracks, within_windows, Day, Train};
+use crate::procedures::first_come;
+use crate::sets::{has_groups, singly, units};
 use crate::valuing::load;
 
 /// Slots of which each train takes any in its window.
@@ -25,16 +28,19 @@ fn crowded(random: &mut Random, day: &Day, crowded: &[usize]) -> Vec<usize> {
     day.trains.iter().map(&mut slot).collect()
 }
 
-/// Allowed, some steps away from an allowed one.
-fn wandered(random: &mut Random, day: &Day, allowed: &[usize]) -> Vec<usize> {
+/// Some steps away from an allowed one, in each of which the trains of a unit
+/// go to another slot within windows and tracks. Where each group is a unit it
+/// is allowed too.
+fn wandered(random: &mut Random, day: &Day, allowed: &[usize], units: &[Vec<usize>]) -> Vec<usize> {
     let mut assignment = allowed.to_vec();
     for _ in 0..2 * allowed.len() {
-        let position = random.below(allowed.len());
-        let left = assignment[position];
-        let train = &day.trains[position];
-        assignment[position] = random.between(train.first, train.last);
-        if !within_tracks(day, &assignment) {
-            assignment[position] = left;
+        let unit = &units[random.below(units.len())];
+        let train = &day.trains[unit[0]];
+        let slot = random.between(train.first, train.last);
+        let mut next = assignment.clone();
+        unit.iter().for_each(|&position| next[position] = slot);
+        if within_windows(day, &next) && within_tracks(day, &next) {
+            assignment = next;
         }
     }
     assignment
@@ -122,6 +128,36 @@ fn of_wrong_length(random: &mut Random, day: &Day, row: &[u8], very_long: bool) 
     lengths.into_iter().map(|length| of_length(random, day, row, length)).collect()
 }
 
+/// The best assignment, or where the groups can't be kept one that is allowed
+/// but for them, if first come finds it.
+fn start(day: &Day, plan: Option<&[usize]>) -> Option<Vec<usize>> {
+    let found = || Some(complete(&first_come(day))).filter(|found| found.len() == day.trains.len());
+    plan.map(<[usize]>::to_vec).or_else(found)
+}
+
+/// Within the windows: allowed, parting groups, overfull. The first is allowed,
+/// if any is; the last is overfull, if one can be.
+fn inside(random: &mut Random, day: &Day, plan: Option<&[usize]>) -> Vec<Vec<usize>> {
+    let mut inside = Vec::new();
+    if let Some(start) = start(day, plan) {
+        inside.push(start.clone());
+        for _ in 0..4 {
+            inside.push(wandered(random, day, &start, &units(day)));
+        }
+        if has_groups(day) {
+            for _ in 0..4 {
+                inside.push(wandered(random, day, &start, &singly(day)));
+            }
+        }
+        inside.extend(one_too_many(random, day, &start));
+    }
+    inside.push(in_windows(random, day));
+    let (slot, other) = (random.between(1, day.slots), random.between(1, day.slots));
+    inside.push(crowded(random, day, &[slot]));
+    inside.push(crowded(random, day, &[slot, other]));
+    inside
+}
+
 /// Rows for a day; `plan` is its best assignment, where it has one.
 pub fn trials(
     random: &mut Random,
@@ -129,21 +165,8 @@ pub fn trials(
     plan: Option<&[usize]>,
     very_long: bool,
 ) -> Vec<Vec<u8>> {
-    // Within the windows: allowed or overfull.
-    let mut inside = Vec::new();
-    if let Some(plan) = plan {
-        inside.push(plan.to_vec());
-        for _ in 0..4 {
-            inside.push(wandered(random, day, plan));
-        }
-        inside.extend(one_too_many(random, day, plan));
-    }
-    inside.push(in_windows(random, day));
-    let (slot, other) = (random.between(1, day.slots), random.between(1, day.slots));
-    inside.push(crowded(random, day, &[slot]));
-    inside.push(crowded(random, day, &[slot, other]));
+    let inside = inside(random, day, plan);
     let mut rows: Vec<Vec<u8>> = inside.iter().map(|assignment| bytes(assignment)).collect();
-    // The first is allowed, if any is; the last is overfull, if one can be.
     let (first, last) = (rows[0].clone(), rows[rows.len() - 1].clone());
     // One fault: a slot outside, or the length.
     rows.extend(with_each_outside(random, day, &first));
@@ -154,6 +177,12 @@ pub fn trials(
     rows.extend(of_wrong_length(random, day, &faulty, false));
     rows.extend(of_wrong_length(random, day, &last, false));
     rows.push(faulty);
+    // The same where groups are parted, but no slot need be overfull.
+    if has_groups(day) {
+        let parting = bytes(&wandered(random, day, &inside[0], &singly(day)));
+        rows.push(with_outside(random, day, &parting, 1));
+        rows.extend(of_wrong_length(random, day, &parting, false));
+    }
     rows.push(day.trains.iter().map(|_| random.byte()).collect());
     rows
 }

@@ -1,7 +1,7 @@
 -- The laws that the proofs of the answer cite: the reply to a sound day from what planning has answered, and the answer to a text from what
 -- reading has.
 -- Assumes nothing.
-use mathlib.Core.Path.{_≡_, refl, ap, _∙_}
+use mathlib.Core.Path.{_≡_, refl, sym, ap, _∙_}
 use mathlib.Core.List.{List, [], _∷_, _++_}
 use mathlib.Core.Option.{Option, none, some}
 use Prim.Native.Nat.{ℕ, _≤_}
@@ -11,20 +11,22 @@ use lib.ListN.{length, getD, drop, List·getD-append}
 use Rattle.fold.specs.Listed.{listed-ext}
 use Rattle.model.specs.Model.{Yard, Outcome, outcome}
 use Rattle.model.specs.BestOf.{bestOf, is-best}
+use Rattle.model.specs.Overbooked.{Interval, firstOverbooked}
 use Rattle.model.specs.Rows.{allowed-is}
-use Rattle.day.specs.Answer.{gives, refuses, number, carried}
+use Rattle.day.specs.Answer.{Answer, gives, refuses, number, carried}
 use Rattle.day.specs.Sound.{dayLimits, sound}
 use Rattle.day.specs.SoundLaws.{sound-is}
 use Rattle.day.specs.declared.Limits.{Limits}
 use Rattle.day.specs.declared.Refusal.{Refusal}
 use Rattle.lines.specs.Lines.{rowText, rowsText}
 use Rattle.dayfile.specs.Reading.{readDay}
-use Rattle.planning.specs.Planning.{bestAnswer, placed}
+use Rattle.planning.specs.Planning.{noRow, bestAnswer, placed}
+use Rattle.planning.specs.Answers.{none-answer, none-gives}
 use Rattle.refusal_text.specs.RefusalText.{refusalText}
 use Rattle.refusal_text.specs.Laws.{refusalBytes}
-use Rattle.planfile.specs.PlanText.{valueNames, slotNames, slotRow, planLines}
+use Rattle.planfile.specs.PlanText.{valueNames, slotNames, slotRow, planLines, planText}
 use Rattle.planfile.specs.Size.{planBytes, plan-size, plan-most}
-use Rattle.answering.specs.Answering.{dayReply, reply, answerText}
+use Rattle.answering.specs.Answering.{replyBy, dayReply, reply, answerText}
 
 -- ---- a refusal is no longer than a plan file can be
 
@@ -45,8 +47,12 @@ module _ (y : Yard) where
   pub refused-reply : (r : Refusal) → refuses (number r) (carried r) ≡ bestAnswer y (bestOf y) → refusalText (number r) (carried r) ≡ dayReply y (bestOf y)
   refused-reply r e = go (bestOf y) e
     where
+      nowhere : (w : Option Interval) → _≡_ {A = Answer Outcome} (refuses (number r) (carried r)) (noRow y w) → refusalText (number r) (carried r) ≡ replyBy (planText y) (noRow y w)
+      nowhere none e = cc
+      nowhere (some w) e = cc
+
       go : (b : Option (List ℕ)) → refuses (number r) (carried r) ≡ bestAnswer y b → refusalText (number r) (carried r) ≡ dayReply y b
-      go none e = cc
+      go none e = nowhere (firstOverbooked y) (e ∙ none-answer y)
       go (some row) e = absurd (let z : _≡_ {A = ℕ} 0 1 = cc in omega arith)
 
   module _ (s : T (sound dayLimits y)) {o : Outcome} (row : List ℕ) (e : gives o ≡ bestAnswer y (bestOf y)) where
@@ -54,7 +60,7 @@ module _ (y : Yard) where
     plan-reply = go (bestOf y) refl e
       where
         go : (b : Option (List ℕ)) → bestOf y ≡ b → gives o ≡ bestAnswer y b → planLines (y .trains) (y .numbers) o (placed b row) ≡ dayReply y b
-        go none f e = absurd (let z : _≡_ {A = ℕ} 0 1 = cc in omega arith)
+        go none f e = absurd (none-gives y o (sym e))
         go (some best) f e =
             let same : o ≡ outcome y best = cc in
             lines-front (y .trains) (y .numbers) o best (drop (length best) row) (allowed-is y best (is-best y best f .isAllowed) .long)
@@ -64,7 +70,7 @@ module _ (y : Yard) where
     plan-fits = rw plan-reply (go (bestOf y) refl e)
       where
         go : (b : Option (List ℕ)) → bestOf y ≡ b → gives o ≡ bestAnswer y b → length (dayReply y b) ≤ planBytes
-        go none f e = absurd (let z : _≡_ {A = ℕ} 0 1 = cc in omega arith)
+        go none f e = absurd (none-gives y o (sym e))
         go (some best) f e = omega (arith, plan-size dayLimits y best (sound-is dayLimits y s) (is-best y best f .isAllowed), plan-most)
 
 -- ---- the answer to a text, from what reading has answered

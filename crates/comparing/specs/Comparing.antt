@@ -1,12 +1,12 @@
--- What a row of slots comes to beside the planned cost: 14 with the lowest position that is left without a slot, else its three numbers and
--- the saving.
+-- What a row of slots comes to beside the planned cost: 14 with the lowest position that is left without a slot, then 14 with 0 where the row
+-- parts a group (order 4 of document 02), else its three numbers and the saving.
 -- Assumes nothing.
 use mathlib.Core.Path.{_≡_}
 use mathlib.Core.List.{List, [], _∷_}
 use Prim.Native.Nat.{ℕ, suc}
 use lib.Dec.{eqb}
 use lib.IntN.{ℤ, pos, _-ℤ_}
-use Rattle.model.specs.Model.{Yard, Outcome, outcome, cost}
+use Rattle.model.specs.Model.{Yard, Outcome, outcome, cost, kept}
 use Rattle.day.specs.Answer.{Answer, gives, refuses, judged, Check, must, checked}
 use Rattle.counting.specs.Counting.{outcomeOf, noOutcome}
 use Rattle.procedures.specs.Procedures.{leftOver}
@@ -29,9 +29,12 @@ comparisonOrZero (refuses k carries) = record { outcome = noOutcome; saving = po
 
 -- ---- the answer
 
--- 14 every train has a slot
+-- 14 every train has a slot, and the members of each group have the same
 abbrev pub servedChecks : Yard → List ℕ → List Check
-servedChecks y row = must (eqb (leftOver (y .trains) row) (y .trains)) 14 (suc (leftOver (y .trains) row) ∷ []) ∷ []
+servedChecks y row =
+    must (eqb (leftOver (y .trains) row) (y .trains)) 14 (suc (leftOver (y .trains) row) ∷ [])
+    ∷ must (kept (y .trains) (y .groups) row) 14 (0 ∷ [])
+    ∷ []
 
 -- a row on a day whose planned cost is given
 unfoldable pub against : Yard → List ℕ → ℕ → Answer Comparison

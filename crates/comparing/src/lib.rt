@@ -31,7 +31,7 @@ pub fn refused(given: Refusal) -> Baseline
     }
 }
 
-// Compares a row of a sound day with the planned cost: 14 where it leaves a train without a slot.
+// Compares a row of a sound day with the planned cost: 14 where it leaves a train without a slot, and 14 with 0 where it parts a group.
 pub fn compare(day: Day, row: &[u8], best: u64) -> Baseline
     requires { ⌜ T (sound dayLimits (yard day)) × (day .trains ≤ length (now row)) × (best < 2 ^ 63) ⌝ }
     ensures { λ r. ⌜ Says (against (yard day) (now (row .entry)) best) r ⌝ }
@@ -40,6 +40,11 @@ pub fn compare(day: Day, row: &[u8], best: u64) -> Baseline
     let left = procedures::left_over(row, n);
     if left < n {
         return refused(Refusal::WithoutSlot(left + 1));
+    }
+    let groups = day.groups;
+    let most = day::day_limits().groups;
+    if wagon_sets::first_parted(&groups, row, n, most) < most {
+        return refused(Refusal::WithoutSlot(0));
     }
     let boxes = day.boxes;
     let value = counting::value_slots(&boxes, 12, row, n, day.revisit, day.split);

@@ -5,7 +5,7 @@ use mathlib.Core.Bool.{Bool, cond}
 use mathlib.Core.List.{List, [], _∷_}
 use Prim.Native.Nat.{ℕ}
 use Rattle.day.specs.declared.Refusal.{Refusal}
-use Rattle.day.specs.declared.Refusal.the-variants.{NamesLine, RowForm, OutOfLimits, NumberOrder, WindowOrder, UnknownTrain, PairOrder, Unsound, NoAllowedRow, TooShort, RowLength, OutsideWindow, SlotOverfull, WithoutSlot}
+use Rattle.day.specs.declared.Refusal.the-variants.{NamesLine, RowForm, OutOfLimits, NumberOrder, WindowOrder, UnknownTrain, PairOrder, Unsound, Overbooked, TooShort, RowLength, OutsideWindow, SlotOverfull, WithoutSlot, GroupRow, NoAllowedRow, GroupParted}
 use Rattle.day.specs.declared.Verdict.{Verdict}
 use Rattle.day.specs.declared.Verdict.the-variants.{Accepted, Refused}
 
@@ -13,7 +13,7 @@ pub data Answer (X : Type 0) : Type 0 where
   gives : X → Answer X
   refuses : ℕ → List ℕ → Answer X
 
--- the number of a refusal: 1 to 13 in 01's table, 14 in document 02
+-- the number of a refusal: 1 to 13 in 01's table, 14 to 17 in document 02
 abbrev pub number : Refusal → ℕ
 number (NamesLine line) = 1
 number (RowForm line) = 2
@@ -23,12 +23,15 @@ number (WindowOrder line) = 5
 number (UnknownTrain line) = 6
 number (PairOrder line) = 7
 number Unsound = 8
-number (NoAllowedRow first last trains) = 9
+number (Overbooked first last trains) = 9
 number TooShort = 10
 number RowLength = 11
 number (OutsideWindow position) = 12
 number (SlotOverfull slot) = 13
 number (WithoutSlot position) = 14
+number (GroupRow line) = 15
+number NoAllowedRow = 16
+number (GroupParted group) = 17
 
 -- what it carries
 abbrev pub carried : Refusal → List ℕ
@@ -40,12 +43,15 @@ carried (WindowOrder line) = line ∷ []
 carried (UnknownTrain line) = line ∷ []
 carried (PairOrder line) = line ∷ []
 carried Unsound = 0 ∷ []
-carried (NoAllowedRow first last trains) = first ∷ last ∷ trains ∷ []
+carried (Overbooked first last trains) = first ∷ last ∷ trains ∷ []
 carried TooShort = 0 ∷ []
 carried RowLength = 0 ∷ []
 carried (OutsideWindow position) = position ∷ []
 carried (SlotOverfull slot) = slot ∷ []
 carried (WithoutSlot position) = position ∷ []
+carried (GroupRow line) = line ∷ []
+carried NoAllowedRow = 0 ∷ []
+carried (GroupParted group) = group ∷ []
 
 abbrev pub refusal : {X : Type 0} → Refusal → Answer X
 refusal r = refuses (number r) (carried r)

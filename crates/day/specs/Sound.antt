@@ -7,22 +7,22 @@ use Prim.Native.Nat.{ℕ, zero, suc, _*_}
 use lib.Dec.{ltb, leb, eqb}
 use lib.ListN.{length, getD}
 use Rattle.fold.specs.Fold.{each}
-use Rattle.model.specs.Model.{Yard, cell}
+use Rattle.model.specs.Model.{Yard, cell, groupOf}
 use Rattle.day.specs.declared.Day.{Day}
 use Rattle.day.specs.declared.Head.{Head}
 use Rattle.day.specs.declared.Limits.{Limits}
 
--- ---- the limits of 01, the greatest values of each field; the least is 1, and 0 for a weight. Train numbers: order 2 of 02
+-- ---- the limits of 01, the greatest values of each field; the least is 1, and 0 for a weight. Train numbers: order 2 of 02; groups: order 4
 abbrev pub dayLimits : Limits
-dayLimits = record { trains = 12; tracks = 12; slots = 8; weight = 65535; number = 99999; boxes = 255 }
+dayLimits = record { trains = 12; tracks = 12; slots = 8; weight = 65535; number = 99999; boxes = 255; groups = 12 }
 
--- ---- the record as plain data: its head, three columns, and a table of boxes of some width
+-- ---- the record as plain data: its head, four columns, and a table of boxes of some width
 
 abbrev pub headOf : Day → Head
 headOf d = record { trains = d .trains; tracks = d .tracks; slots = d .slots; revisit = d .revisit; split = d .split }
 
-abbrev pub dayFrom : Head → List ℕ → List ℕ → List ℕ → ℕ → List ℕ → Yard
-dayFrom h numbers first last width boxes = record {
+abbrev pub dayFrom : Head → List ℕ → List ℕ → List ℕ → List ℕ → ℕ → List ℕ → Yard
+dayFrom h numbers first last groups width boxes = record {
   trains = h .trains;
   tracks = h .tracks;
   slots = h .slots;
@@ -31,12 +31,13 @@ dayFrom h numbers first last width boxes = record {
   numbers = numbers;
   first = first;
   last = last;
+  groups = groups;
   width = width;
   boxes = boxes;
 }
 
 abbrev pub yard : Day → Yard
-yard d = dayFrom (headOf d) (d .numbers) (d .first) (d .last) 12 (d .boxes)
+yard d = dayFrom (headOf d) (d .numbers) (d .first) (d .last) (d .groups) 12 (d .boxes)
 
 -- ---- the fields of a row and their ranges, 01's table of the day file
 
@@ -68,6 +69,10 @@ trainRanges l slots = range 1 (l .number) ∷ range 1 slots ∷ range 1 slots �
 unfoldable pub moveRanges : Limits → List Range
 moveRanges l = range 1 (l .number) ∷ range 1 (l .number) ∷ range 1 (l .boxes) ∷ []
 
+-- `group train`, order 4 of 02
+unfoldable pub groupRanges : Limits → List Range
+groupRanges l = range 1 (l .groups) ∷ range 1 (l .number) ∷ []
+
 -- ---- a record's rows of the first two sections
 
 abbrev pub headRow : Yard → List ℕ
@@ -97,6 +102,10 @@ unfoldable pub positionSound : Limits → ℕ → ℕ → List ℕ → List ℕ 
 positionSound l n slots numbers first last i =
     cond (ltb i n) (trainSound l slots numbers first last i) (unused numbers first last i)
 
+-- position i is in no group or in one of the limits' numbers, and in none where it holds no train
+unfoldable pub groupSound : Limits → ℕ → List ℕ → ℕ → Bool
+groupSound l n groups i = cond (ltb i n) (leb (groupOf groups i) (l .groups)) (eqb (groupOf groups i) 0)
+
 -- ---- the boxes
 
 -- boxes pass between two different trains, and keep their limit
@@ -113,7 +122,7 @@ receiverSound l n width boxes i = each (l .trains) (pairSound l n width boxes i)
 unfoldable pub shaped : Limits → Yard → Bool
 shaped l y =
     eqb (y .width) (l .trains) && eqb (length (y .numbers)) (l .trains) && eqb (length (y .first)) (l .trains)
-    && eqb (length (y .last)) (l .trains) && eqb (length (y .boxes)) (l .trains * l .trains)
+    && eqb (length (y .last)) (l .trains) && eqb (length (y .groups)) (l .trains) && eqb (length (y .boxes)) (l .trains * l .trains)
 
 unfoldable pub sound : Limits → Yard → Bool
 sound l y =
@@ -121,3 +130,4 @@ sound l y =
     && within (headRanges l) (headRow y)
     && each (l .trains) (positionSound l (y .trains) (y .slots) (y .numbers) (y .first) (y .last))
     && each (l .trains) (receiverSound l (y .trains) (y .width) (y .boxes))
+    && each (l .trains) (groupSound l (y .trains) (y .groups))

@@ -8,11 +8,11 @@ use native.Mathlib.Nat.{le-trans}
 use native.Mathlib.Omega.{arith}
 use lib.Dec.{T, ltb, leb, eqb, leb→le, ltb→lt, eqb→eq}
 use lib.ListN.{length, getD}
-use borrow.Author.Tests.{lt-ltb, eq-eqb}
+use borrow.Author.Tests.{lt-ltb, le-ltb, eq-eqb}
 use Rattle.fold.specs.Test.{of-true, both, both-of}
 use Rattle.fold.specs.Fold.{each, each-at}
-use Rattle.model.specs.Model.{Yard, received, firstSlot, lastSlot}
-use Rattle.day.specs.Sound.{Range, between, within, headRanges, trainRanges, headRow, trainRow, numberBefore, trainSound, unused, positionSound, pairSound, receiverSound, shaped, sound}
+use Rattle.model.specs.Model.{Yard, received, firstSlot, lastSlot, groupOf}
+use Rattle.day.specs.Sound.{Range, between, within, headRanges, trainRanges, headRow, trainRow, numberBefore, trainSound, unused, positionSound, groupSound, pairSound, receiverSound, shaped, sound}
 use Rattle.day.specs.declared.Limits.{Limits}
 
 -- ---- ranges
@@ -52,6 +52,7 @@ pub record Shaped (l : Limits) (y : Yard) : Type 0 where
   pub numbers : length (y .numbers) ≡ l .trains
   pub first : length (y .first) ≡ l .trains
   pub last : length (y .last) ≡ l .trains
+  pub groups : length (y .groups) ≡ l .trains
   pub boxes : length (y .boxes) ≡ l .trains * l .trains
 
 pub record Sound (l : Limits) (y : Yard) : Type 0 where
@@ -63,6 +64,7 @@ pub record Sound (l : Limits) (y : Yard) : Type 0 where
   pub numbers : (i : ℕ) → i < y .trains → (1 ≤ getD (y .numbers) i 0) × (getD (y .numbers) i 0 ≤ l .number)
   pub windows : (i : ℕ) → i < y .trains → (1 ≤ firstSlot y i) × (firstSlot y i ≤ lastSlot y i) × (lastSlot y i ≤ y .slots)
   pub boxes : (i j : ℕ) → i < y .trains → j < y .trains → received y i j ≤ l .boxes
+  pub groups : (i : ℕ) → i < y .trains → groupOf (y .groups) i ≤ l .groups
 
 module _ (l : Limits) (y : Yard) where
   positions : Bool
@@ -71,26 +73,31 @@ module _ (l : Limits) (y : Yard) where
   tables : Bool
   tables = each (l .trains) (receiverSound l (y .trains) (y .width) (y .boxes))
 
-  -- the four tests of a sound day
+  members : Bool
+  members = each (l .trains) (groupSound l (y .trains) (y .groups))
+
+  -- the five tests of a sound day
   pub sound-tests : T (sound l y)
       → T (shaped l y) × T (within (headRanges l) (headRow y))
       × T (each (l .trains) (positionSound l (y .trains) (y .slots) (y .numbers) (y .first) (y .last)))
       × T (each (l .trains) (receiverSound l (y .trains) (y .width) (y .boxes)))
-  unfolding sound positions tables
+      × T (each (l .trains) (groupSound l (y .trains) (y .groups)))
+  unfolding sound positions tables members
   sound-tests t =
-      let (a, b) = both-of (shaped l y && within (headRanges l) (headRow y) && positions) tables t in
+      let (g, m) = both-of (shaped l y && within (headRanges l) (headRow y) && positions && tables) members t in
+      let (a, b) = both-of (shaped l y && within (headRanges l) (headRow y) && positions) tables g in
       let (c, d) = both-of (shaped l y && within (headRanges l) (headRow y)) positions a in
       let (e, f) = both-of (shaped l y) (within (headRanges l) (headRow y)) c in
-      (e, f, d, b)
+      (e, f, d, b, m)
 
   pub tests-sound : T (shaped l y) → T (within (headRanges l) (headRow y))
       → T (each (l .trains) (positionSound l (y .trains) (y .slots) (y .numbers) (y .first) (y .last)))
-      → T (each (l .trains) (receiverSound l (y .trains) (y .width) (y .boxes))) → T (sound l y)
-  unfolding sound
-  tests-sound a b c d =
-      both (shaped l y && within (headRanges l) (headRow y) && each (l .trains) (positionSound l (y .trains) (y .slots) (y .numbers) (y .first) (y .last))) (each (l .trains) (receiverSound l (y .trains) (y .width) (y .boxes)))
-      (both (shaped l y && within (headRanges l) (headRow y)) (each (l .trains) (positionSound l (y .trains) (y .slots) (y .numbers) (y .first) (y .last)))
-      (both (shaped l y) (within (headRanges l) (headRow y)) a b) c) d
+      → T (each (l .trains) (receiverSound l (y .trains) (y .width) (y .boxes))) → T (each (l .trains) (groupSound l (y .trains) (y .groups))) → T (sound l y)
+  unfolding sound positions tables members
+  tests-sound a b c d m =
+      both (shaped l y && within (headRanges l) (headRow y) && positions && tables) members
+      (both (shaped l y && within (headRanges l) (headRow y) && positions) tables
+      (both (shaped l y && within (headRanges l) (headRow y)) positions (both (shaped l y) (within (headRanges l) (headRow y)) a b) c) d) m
 
   pub shaped-is : T (shaped l y) → Shaped l y
   unfolding shaped
@@ -99,11 +106,13 @@ module _ (l : Limits) (y : Yard) where
       let n = eqb (length (y .numbers)) (l .trains) in
       let e = eqb (length (y .first)) (l .trains) in
       let s = eqb (length (y .last)) (l .trains) in
-      let (a, boxes) = both-of (w && n && e && s) (eqb (length (y .boxes)) (l .trains * l .trains)) t in
+      let g = eqb (length (y .groups)) (l .trains) in
+      let (d, boxes) = both-of (w && n && e && s && g) (eqb (length (y .boxes)) (l .trains * l .trains)) t in
+      let (a, groups) = both-of (w && n && e && s) g d in
       let (b, last) = both-of (w && n && e) s a in
       let (c, first) = both-of (w && n) e b in
       let (width, numbers) = both-of w n c in
-      record { width = eqb→eq _ _ width; numbers = eqb→eq _ _ numbers; first = eqb→eq _ _ first; last = eqb→eq _ _ last; boxes = eqb→eq _ _ boxes }
+      record { width = eqb→eq _ _ width; numbers = eqb→eq _ _ numbers; first = eqb→eq _ _ first; last = eqb→eq _ _ last; groups = eqb→eq _ _ groups; boxes = eqb→eq _ _ boxes }
 
   pub is-shaped : Shaped l y → T (shaped l y)
   unfolding shaped
@@ -112,8 +121,11 @@ module _ (l : Limits) (y : Yard) where
       let n = eqb (length (y .numbers)) (l .trains) in
       let e = eqb (length (y .first)) (l .trains) in
       let s = eqb (length (y .last)) (l .trains) in
-      both (w && n && e && s) (eqb (length (y .boxes)) (l .trains * l .trains))
+      let g = eqb (length (y .groups)) (l .trains) in
+      both (w && n && e && s && g) (eqb (length (y .boxes)) (l .trains * l .trains))
+      (both (w && n && e && s) g
       (both (w && n && e) s (both (w && n) e (both w n (of-true (eq-eqb _ _ (h .width))) (of-true (eq-eqb _ _ (h .numbers)))) (of-true (eq-eqb _ _ (h .first)))) (of-true (eq-eqb _ _ (h .last))))
+      (of-true (eq-eqb _ _ (h .groups))))
       (of-true (eq-eqb _ _ (h .boxes)))
 
   -- position i of a train
@@ -128,6 +140,19 @@ module _ (l : Limits) (y : Yard) where
       let (a, window) = both-of (fields && rises) (leb (firstSlot y i) (lastSlot y i)) s in
       let (inside, up) = both-of fields rises a in
       (inside, ltb→lt _ _ up, leb→le _ _ window)
+
+  -- the group of a position, of a train and where there is none
+  pub group-used : (i : ℕ) → i < y .trains → T (groupSound l (y .trains) (y .groups) i) → groupOf (y .groups) i ≤ l .groups
+  unfolding groupSound
+  group-used i h t =
+      leb→le (groupOf (y .groups) i) (l .groups)
+      (subst (λ b. T (cond b (leb (groupOf (y .groups) i) (l .groups)) (eqb (groupOf (y .groups) i) 0))) (lt-ltb i (y .trains) h) t)
+
+  pub group-unused : (i : ℕ) → y .trains ≤ i → T (groupSound l (y .trains) (y .groups) i) → groupOf (y .groups) i ≡ 0
+  unfolding groupSound
+  group-unused i h t =
+      eqb→eq (groupOf (y .groups) i) 0
+      (subst (λ b. T (cond b (leb (groupOf (y .groups) i) (l .groups)) (eqb (groupOf (y .groups) i) 0))) (le-ltb i (y .trains) h) t)
 
   -- the boxes of a pair, of the same train too
   pair-limit : (i j : ℕ) → T (pairSound l (y .trains) (y .width) (y .boxes) i j) → received y i j ≤ l .boxes
@@ -149,7 +174,7 @@ module _ (l : Limits) (y : Yard) where
   pub sound-is : T (sound l y) → Sound l y
   unfolding headRanges trainRanges receiverSound positions
   sound-is t =
-      let (shape, head, p, boxes) = sound-tests t in
+      let (shape, head, p, boxes, groups) = sound-tests t in
       let (n, (g, (s, (w1, (w2, u))))) = within-is (headRanges l) (headRow y) head in
       let below : (i : ℕ) → i < y .trains → i < l .trains = λ i h. le-trans h (n .1) in
       record {
@@ -163,4 +188,5 @@ module _ (l : Limits) (y : Yard) where
             let ((number, (first, (last, u))), window) = train-fields p i h (below i h) in
             (first .0, window, last .1);
         boxes = λ i j a b. pair-limit i j (each-at (l .trains) _ (each-at (l .trains) _ boxes i (below i a)) j (below j b));
+        groups = λ i h. group-used i h (each-at (l .trains) _ groups i (below i h));
       }

@@ -7,10 +7,10 @@ ghost use Prim.Native.Nat.{_≤_, _<_};
 ghost use lib.ListN.{length};
 ghost use Rattle.model.specs.Model.{cell, inTime};
 ghost use Rattle.model.specs.Cells.{InTable};
-ghost use Rattle.day.specs.Sound.{dayLimits, headOf, range, between, within, headRanges, trainRanges, moveRanges};
+ghost use Rattle.day.specs.Sound.{dayLimits, headOf, range, between, within, headRanges, trainRanges, moveRanges, groupRanges};
 
 // A day. Positions are counted from 0; A(i, j), the boxes that train i receives from train j, stands at i * 12 + j of `boxes`.
-// Unused positions hold 0.
+// A train in no group has group 0. Unused positions hold 0.
 pub struct Day {
     pub trains: usize,
     pub tracks: u32,
@@ -20,10 +20,11 @@ pub struct Day {
     pub numbers: [u32; 12],
     pub first: [u8; 12],
     pub last: [u8; 12],
+    pub groups: [u8; 12],
     pub boxes: [u8; 144],
 }
 
-// The row of the first section of a day file. With it a day of any size is three columns and a table of boxes.
+// The row of the first section of a day file. With it a day of any size is four columns and a table of boxes.
 pub struct Head {
     pub trains: usize,
     pub tracks: u32,
@@ -32,7 +33,7 @@ pub struct Head {
     pub split: u32,
 }
 
-// The greatest value of each field of a day file.
+// The greatest value of each field of a day file. Where `groups` is 0 the file has no fourth section.
 pub struct Limits {
     pub trains: usize,
     pub tracks: u32,
@@ -40,10 +41,12 @@ pub struct Limits {
     pub weight: u32,
     pub number: u32,
     pub boxes: u8,
+    pub groups: u8,
 }
 
-// The refusals 1 to 13 of document 01 and 14 of document 02, in their order, with what each carries: a line of the text, counted from 1;
-// the first and the last slot of an interval and the trains bound inside; a position or a slot, counted from 1.
+// The refusals 1 to 13 of document 01 and 14 to 17 of document 02, in their order, with what each carries: a line of the text, counted
+// from 1; the first and the last slot of an interval and the trains bound inside; a position or a slot, counted from 1 (`WithoutSlot` of 0:
+// each train has a slot, and the row is still not allowed); a group.
 pub enum Refusal {
     NamesLine(usize),
     RowForm(usize),
@@ -53,12 +56,15 @@ pub enum Refusal {
     UnknownTrain(usize),
     PairOrder(usize),
     Unsound,
-    NoAllowedRow { first: u8, last: u8, trains: usize },
+    Overbooked { first: u8, last: u8, trains: usize },
     TooShort,
     RowLength,
     OutsideWindow(usize),
     SlotOverfull(u8),
     WithoutSlot(usize),
+    GroupRow(usize),
+    NoAllowedRow,
+    GroupParted(u8),
 }
 
 // What a call says beside the numbers or the day that it gives: accepted, or the refusal.
@@ -67,7 +73,7 @@ pub enum Verdict {
     Refused(Refusal),
 }
 
-// The limits of document 01; that of train numbers is order 2's of document 02.
+// The limits of document 01; that of train numbers is order 2's of document 02, that of groups order 4's.
 pub fn day_limits() -> Limits
     ensures { λ r. ⌜ r ≡ dayLimits ⌝ }
 {
@@ -78,6 +84,7 @@ pub fn day_limits() -> Limits
         weight: 65535,
         number: 99999,
         boxes: 255,
+        groups: 12,
     }
 }
 
@@ -101,7 +108,7 @@ fn in_range(least: u64, greatest: u64, x: u64) -> bool
     (least <= x) & (x <= greatest)
 }
 
-// Whether the fields of a row lie in their ranges: the first section's row, a train's, a move's.
+// Whether the fields of a row lie in their ranges: the first section's row, a train's, a move's, a group's.
 pub fn head_within(
     l: Limits,
     trains: u64,
@@ -131,6 +138,12 @@ pub fn move_within(l: Limits, to: u64, from: u64, boxes: u64) -> bool
     in_range(1, l.number as u64, to)
         & in_range(1, l.number as u64, from)
         & in_range(1, l.boxes as u64, boxes)
+}
+
+pub fn group_within(l: Limits, group: u64, train: u64) -> bool
+    ensures { λ r. ⌜ r ≡ within (groupRanges l) (group ∷ train ∷ []) ⌝ }
+{
+    in_range(1, l.groups as u64, group) & in_range(1, l.number as u64, train)
 }
 
 // The entry (i, j) of a square table that is stored row after row.

@@ -23,7 +23,14 @@ fn put_cell(table: &mut [u8], width: usize, i: usize, j: usize, x: u8)
     table[at] = x;
 }
 
-// Reads the rows of moves, up to the end of the text, into the table of boxes. `start` is the line of the first.
+// The place and the line after the last move, or the refusal.
+pub enum Moves {
+    Next { at: usize, line: usize },
+    Refused(Refusal),
+}
+
+// Reads the rows of moves, up to the end of the text or the names line of the groups, into the table of boxes. `start` is the line of
+// the first.
 fn read_move_rows(
     l: Limits,
     text: &[u8],
@@ -33,37 +40,35 @@ fn read_move_rows(
     n: usize,
     boxes: &mut [u8],
     width: usize,
-) -> Step
+) -> Moves
     requires { ⌜ (at ≤ length (now text)) × ((start ≤ 1000) × ((n ≤ length (now numbers)) × ((n ≤ width) × (width * width ≤ length (now boxes))))) ⌝ }
-    ensures { λ r. ⌜ MovesTo (take n (now (numbers .entry))) width (readMoves l (take n (now (numbers .entry))) (length (drop at (now (text .entry)))) (0 ∷ 0 ∷ 0 ∷ []) start (drop at (now (text .entry)))) (now (boxes .entry)) (now (boxes .exit)) r ⌝ }
+    ensures { λ r. ⌜ MovesTo (take n (now (numbers .entry))) width start (now (text .entry)) (readMoves l (take n (now (numbers .entry))) (length (drop at (now (text .entry)))) (0 ∷ 0 ∷ 0 ∷ []) start (drop at (now (text .entry)))) (now (boxes .entry)) (now (boxes .exit)) r ⌝ }
 {
     let mut p = at;
     let mut line = start;
     let mut to: u32 = 0;
     let mut from: u32 = 0;
     loop {
-        let row = day_rows::read_move(l, text, p, line, numbers, n, to, from);
-        if let Line::End = row {
-            return Step::Next(p);
+        match day_rows::read_move(l, text, p, line, numbers, n, to, from) {
+            Line::Names { next: _ } | Line::End => return Moves::Next { at: p, line },
+            Line::Refused(refusal) => return Moves::Refused(refusal),
+            Line::Row {
+                a,
+                b,
+                c,
+                d: _,
+                e: _,
+                next,
+            } => {
+                let i = day_rows::position_of(numbers, n, a);
+                let j = day_rows::position_of(numbers, n, b);
+                put_cell(boxes, width, i, j, day_rows::narrow(c));
+                to = a;
+                from = b;
+                p = next;
+                line += 1;
+            }
         }
-        let Line::Row {
-            a,
-            b,
-            c,
-            d: _,
-            e: _,
-            next,
-        } = row
-        else {
-            return Step::Refused(day_rows::refusal_of(row, Refusal::RowForm(line)));
-        };
-        let i = day_rows::position_of(numbers, n, a);
-        let j = day_rows::position_of(numbers, n, b);
-        put_cell(boxes, width, i, j, day_rows::narrow(c));
-        to = a;
-        from = b;
-        p = next;
-        line += 1;
     }
 }
 
@@ -77,13 +82,13 @@ pub fn read_moves(
     n: usize,
     boxes: &mut [u8],
     width: usize,
-) -> Step
+) -> Moves
     requires { ⌜ (line < 1000) × ((n ≤ length (now numbers)) × ((n ≤ width) × (width * width ≤ length (now boxes)))) ⌝ }
-    ensures { λ r. ⌜ MovesTo (take n (now (numbers .entry))) width (moveSection l (take n (now (numbers .entry))) line (drop at (now (text .entry)))) (now (boxes .entry)) (now (boxes .exit)) r ⌝ }
+    ensures { λ r. ⌜ MovesTo (take n (now (numbers .entry))) width (line + 1) (now (text .entry)) (moveSection l (take n (now (numbers .entry))) line (drop at (now (text .entry)))) (now (boxes .entry)) (now (boxes .exit)) r ⌝ }
 {
     let names = day_rows::read_names(text, at, line, &dayfile::MOVE_NAMES);
-    let Step::Next(next) = names else {
-        return names;
-    };
-    read_move_rows(l, text, next, line + 1, numbers, n, boxes, width)
+    match names {
+        Step::Next(next) => read_move_rows(l, text, next, line + 1, numbers, n, boxes, width),
+        Step::Refused(refusal) => Moves::Refused(refusal),
+    }
 }

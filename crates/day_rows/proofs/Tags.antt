@@ -1,9 +1,9 @@
 -- An answer of the line reader that is not of the kind due is a refusal, and is handed up as it is. The kinds of a line are told apart
 -- by the tags of the enum: 0 a names line, 1 a row, 2 the end, 3 a refusal.
 -- Assumes nothing.
-use mathlib.Core.Path.{_≡_, refl}
-use mathlib.Core.Bool.{not, _&&_}
-use mathlib.Core.List.{List, []}
+use mathlib.Core.Path.{_≡_, refl, sym, _∙_, subst}
+use mathlib.Core.Bool.{Bool, true, false, not, _&&_}
+use mathlib.Core.List.{List}
 use mathlib.Core.Logic.{_⊎_, ⊎-elim}
 use Prim.Native.Nat.{ℕ}
 use native.Mathlib.Omega.{arith}
@@ -15,13 +15,12 @@ use Rattle.fold.specs.Test.{of-true, both-of, not-of}
 use Rattle.day.specs.Answer.{Answer, gives, refusal, Check}
 use Rattle.day.specs.declared.Refusal.{Refusal}
 use Rattle.lines.specs.Lines.{names, row}
-use Rattle.lines.specs.Reader.{theEnd, namesFound, rowFound, found, Answers}
-use Rattle.lines.specs.declared.Due.the-variants.{RowOrEnd}
+use Rattle.lines.specs.Reader.{Found, namesFound, rowFound, Answers}
 use Rattle.lines.specs.declared.Line.{Line}
 use Rattle.lines.specs.declared.Line.the-variants.{Names, Row, End, Refused}
 use Rattle.lines.proofs.Line.{the-type}
 use Rattle.dayfile.specs.Reading.{RowRest, readNames, readRow}
-use Rattle.day_rows.specs.Steps.{ReadsRow, ReadsMove, refusalOf, row-not-names, row-not-end, row-refused, end-or-row, names-not-row, names-not-end, names-refused}
+use Rattle.day_rows.specs.Steps.{ReadsRow, ReadsOrEnds, NoRow, EndsOrRow, refusalOf, row-not-names, row-not-end, row-refused, names-not-row, names-not-end, names-refused}
 
 -- the tag is one of three
 abbrev OneOf : ℕ → ℕ → ℕ → ℕ → Type 0
@@ -41,23 +40,25 @@ row-handed t k line checks s (Row a b c d e next) h f = absurd (none-of 1 0 2 3 
 row-handed t k line checks s End h f = row-not-end line (row k s) f
 row-handed t k line checks s (Refused r) h f = row-refused line (row k s) r _ f
 
--- where a move's row or the end is due, the end is handed up too
-pub move-handed : (t word : List ℕ) (line : ℕ) (checks : List ℕ → List Check) (s : List ℕ) (r : Line)
-    → OneOf (tagOf the-type r) 0 2 3 → Answers t (found RowOrEnd word line s) r → ReadsMove t s (readRow 2 line checks s) r
-move-handed t word line checks s r h f =
-    ⊎-elim (λ w. at-end r (w .0) (rw (w .1) at f)) (λ w. at-row r (w .0) h (rw (w .1) at f)) (end-or-row word line s)
-  where
-    at-end : (r : Line) → s ≡ [] → Answers t theEnd r → ReadsMove t s (readRow 2 line checks s) r
-    at-end (Names next) e0 f = absurd (let z : _≡_ {A = ℕ} 0 1 = cc in omega arith)
-    at-end (Row a b c d e next) e0 f = absurd (let g = f .is in let z : _≡_ {A = ℕ} 0 1 = cc in omega arith)
-    at-end End e0 f = e0
-    at-end (Refused r) e0 f = absurd (let z : _≡_ {A = ℕ} 0 1 = cc in omega arith)
+-- where rows may end, what ends them is handed up too
+pub end-handed : (t : List ℕ) (k line : ℕ) (checks : List ℕ → List Check) (s : List ℕ) (ends : Bool) (found : Found) (r : Line)
+    → OneOf (tagOf the-type r) 0 2 3 → EndsOrRow ends line (row k s) found → Answers t found r → ReadsOrEnds k ends t (readRow k line checks s) r
+end-handed t k line checks s true found (Names next) h e f = refl
+end-handed t k line checks s true found (Row a b c d x next) h e f = absurd (none-of 1 0 2 3 h tt)
+end-handed t k line checks s true found End h e f = refl
+end-handed t k line checks s true found (Refused r) h e f = absurd (subst NoRow f e)
+end-handed t k line checks s false found (Names next) h e f = absurd (row-not-names line (row k s) _ (sym e ∙ f .0))
+end-handed t k line checks s false found (Row a b c d x next) h e f = absurd (none-of 1 0 2 3 h tt)
+end-handed t k line checks s false found End h e f = absurd (row-not-end line (row k s) (sym e ∙ f))
+end-handed t k line checks s false found (Refused r) h e f = (row-refused line (row k s) r _ (sym e ∙ f), refl)
 
-    at-row : (r : Line) → (s ≡ [] → ⊥) → OneOf (tagOf the-type r) 0 2 3 → Answers t (rowFound line (row 2 s)) r → ReadsMove t s (readRow 2 line checks s) r
-    at-row (Names next) n0 h f = row-not-names line (row 2 s) _ (f .0)
-    at-row (Row a b c d e next) n0 h f = absurd (none-of 1 0 2 3 h tt)
-    at-row End n0 h f = absurd (row-not-end line (row 2 s) f)
-    at-row (Refused r) n0 h f = (row-refused line (row 2 s) r _ f, n0)
+-- what was handed up ends them
+pub ended : (k : ℕ) (ends : Bool) (t : List ℕ) (answer : Answer RowRest) (line : Line)
+    → (tagOf the-type line ≡ 0) ⊎ (tagOf the-type line ≡ 2) → ReadsOrEnds k ends t answer line → ends ≡ true
+ended k ends t answer (Names next) h f = f
+ended k ends t answer (Row a b c d e next) h f = absurd (⊎-elim (λ w. omega arith) (λ w. omega arith) h)
+ended k ends t answer End h f = f
+ended k ends t answer (Refused r) h f = absurd (⊎-elim (λ w. omega arith) (λ w. omega arith) h)
 
 -- ---- the refusal to hand up where the line due was not found
 
@@ -67,14 +68,6 @@ row-refusal k t answer due x (Names next) h f is = absurd f
 row-refusal k t answer due x (Row a b c d e next) h f is = absurd (none-of 1 0 2 3 h tt)
 row-refusal k t answer due x End h f is = absurd f
 row-refusal k t answer due x (Refused r) h f is = rw is f
-
--- where neither a move's row nor the end was found
-pub move-refusal : (t s : List ℕ) (answer : Answer RowRest) (due x : Refusal) (line : Line)
-    → OneOf (tagOf the-type line) 0 1 3 → OneOf (tagOf the-type line) 0 2 3 → ReadsMove t s answer line → x ≡ refusalOf line due → (answer ≡ refusal x) × (s ≡ [] → ⊥)
-move-refusal t s answer due x (Names next) g h f is = absurd f
-move-refusal t s answer due x (Row a b c d e next) g h f is = absurd (none-of 1 0 2 3 h tt)
-move-refusal t s answer due x End g h f is = absurd (none-of 2 0 1 3 g tt)
-move-refusal t s answer due x (Refused r) g h f is = (rw is (f .0), f .1)
 
 pub names-refusal : (t word : List ℕ) (n : ℕ) (s : List ℕ) (due x : Refusal) (line : Line)
     → OneOf (tagOf the-type line) 1 2 3 → Answers t (namesFound n (names word s)) line → x ≡ refusalOf line due → readNames word n s ≡ refusal x

@@ -1,27 +1,28 @@
 -- What the reading steps answer, as the code's lines and places, and how an answer of the line reader becomes one: a form that is
 -- refused is handed up, a row that was read goes on to its checks.
 -- Assumes nothing.
-use mathlib.Core.Path.{_≡_, refl, ap, _∙_}
-use mathlib.Core.Bool.{Bool, true, false}
+use mathlib.Core.Path.{_≡_, refl, ap, _∙_, subst}
+use mathlib.Core.Bool.{Bool, true, false, cond, _&&_, _||_}
 use mathlib.Core.List.{List, [], _∷_}
-use mathlib.Core.Logic.{_⊎_, inl, inr}
 use Prim.Native.Nat.{ℕ, suc, _≤_}
 use native.Mathlib.Omega.{arith}
-use lib.Dec.{eqb}
+use lib.Dec.{ltb, eqb}
 use lib.ListN.{length, getD, take, drop}
 use lib.Seq.{length-take-le, getD-take}
 use Rattle.day.specs.Answer.{Answer, gives, refuses, number, carried, refusal, Check, must, checked}
+use Rattle.day.specs.declared.Limits.{Limits}
 use Rattle.day.specs.declared.Refusal.{Refusal}
 use Rattle.decimal.specs.Parsed.{Parsed, fail, got}
-use Rattle.lines.specs.Lines.{row}
+use Rattle.lines.specs.Lines.{names, row}
 use Rattle.lines.specs.Laws.{row-read}
-use Rattle.lines.specs.Reader.{aNamesLine, aRow, theEnd, aRefusal, namesFound, rowFound, found, RowAt}
-use Rattle.lines.specs.declared.Due.the-variants.{RowOrEnd}
+use Rattle.lines.specs.Reader.{Found, aNamesLine, aRow, theEnd, aRefusal, namesFound, rowFound, endOr, namesOr, found, RowAt}
+use Rattle.lines.specs.declared.Due.{Due}
+use Rattle.lines.specs.declared.Due.the-variants.{RowOrEnd, RowNamesOrEnd, PairOrEnd}
 use Rattle.lines.specs.declared.Line.{Line}
 use Rattle.lines.specs.declared.Line.the-variants.{Names, Row, End, Refused}
 use Rattle.fold.specs.Fold.{lowest}
 use Rattle.fold.specs.Sums.{lowest-ext}
-use Rattle.dayfile.specs.Reading.{orRefuse, RowRest, readRow, position}
+use Rattle.dayfile.specs.Reading.{groupNames, orRefuse, isEnd, isRead, RowRest, readRow, position, movesEnd}
 use Rattle.day_rows.specs.declared.Step.{Step}
 use Rattle.day_rows.specs.declared.Step.the-variants.{Next, Refused as Stopped}
 
@@ -105,6 +106,12 @@ five-values (x ∷ y ∷ z ∷ w ∷ []) a b c d e l p q r s t = absurd (omega a
 five-values (x ∷ y ∷ z ∷ w ∷ u ∷ []) a b c d e l p q r s t = cc
 five-values (x ∷ y ∷ z ∷ w ∷ u ∷ o ∷ v) a b c d e l p q r s t = absurd (omega arith)
 
+two-values : (v : List ℕ) (a b : ℕ) → length v ≡ 2 → a ≡ getD v 0 0 → b ≡ getD v 1 0 → v ≡ a ∷ b ∷ []
+two-values [] a b l p q = absurd (omega arith)
+two-values (x ∷ []) a b l p q = absurd (omega arith)
+two-values (x ∷ y ∷ []) a b l p q = cc
+two-values (x ∷ y ∷ z ∷ v) a b l p q = absurd (omega arith)
+
 -- a row of k + 1 values was read; the first of its checks that fails decides
 pub record ToChecks (k : ℕ) (t : List ℕ) (checks : List Check) (answer : Answer RowRest) (a b c d e next : ℕ) : Type 0 where
   pub is : answer ≡ checked checks (gives (rowRest (take (suc k) (a ∷ b ∷ c ∷ d ∷ e ∷ [])) (drop next t)))
@@ -127,6 +134,11 @@ module _ (t : List ℕ) (line : ℕ) (checks : List ℕ → List Check) (s : Lis
       ap (λ (p : Parsed (List ℕ)). orRefuse 2 line p λ r q. checked (checks r) (gives (rowRest r q))) (row-got line (row k s) v (drop next t) f)
       ∙ ap (λ (v : List ℕ). checked (checks v) (gives (rowRest v (drop next t)))) same
 
+  pub two-checks : {a b c d e next : ℕ} → RowAt t (rowFound line (row 1 s)) a b c d e next → ToChecks 1 t (checks (a ∷ b ∷ [])) (readRow 1 line checks s) a b c d e next
+  two-checks {a} {b} {c} {d} {e} {next} h =
+      let values = two-values (h .values) a b (row-read 1 s (h .values) (drop next t) (row-got line (row 1 s) (h .values) (drop next t) (h .is)) .count) (h .first) (h .second) in
+      record { is = to-checks next 1 (h .values) (a ∷ b ∷ []) (h .is) values; inside = h .inside }
+
   pub three-checks : {a b c d e next : ℕ} → RowAt t (rowFound line (row 2 s)) a b c d e next → ToChecks 2 t (checks (a ∷ b ∷ c ∷ [])) (readRow 2 line checks s) a b c d e next
   three-checks {a} {b} {c} {d} {e} {next} h =
       let values = three-values (h .values) a b c (row-read 2 s (h .values) (drop next t) (row-got line (row 2 s) (h .values) (drop next t) (h .is)) .count) (h .first) (h .second) (h .third) in
@@ -145,27 +157,58 @@ position-take numbers n x h =
     ap (λ k. lowest k λ i. eqb (getD (take n numbers) i 0) x) (length-take-le n numbers h)
     ∙ lowest-ext n (λ i. eqb (getD (take n numbers) i 0) x) (λ i. eqb (getD numbers i 0) x) (λ i l. ap (λ v. eqb v x) (getD-take n numbers i 0 l))
 
--- ---- a move's row, or the end of the text
+-- ---- where rows may end: a row of k + 1 values, or that they end here, which `ends` says of the text
 
-abbrev pub ReadsMove : List ℕ → List ℕ → Answer RowRest → Line → Type 0
-ReadsMove t s answer (Names next) = ⊥
-ReadsMove t s answer (Row a b c d e next) = RowTo 2 t answer a b c d e next
-ReadsMove t s answer End = s ≡ []
-ReadsMove t s answer (Refused r) = (answer ≡ refusal r) × (s ≡ [] → ⊥)
+abbrev pub ReadsOrEnds : ℕ → Bool → List ℕ → Answer RowRest → Line → Type 0
+ReadsOrEnds k ends t answer (Names next) = ends ≡ true
+ReadsOrEnds k ends t answer (Row a b c d e next) = RowTo k t answer a b c d e next
+ReadsOrEnds k ends t answer End = ends ≡ true
+ReadsOrEnds k ends t answer (Refused r) = (answer ≡ refusal r) × (ends ≡ false)
 
--- at the end of the text the line reader finds the end, elsewhere a row or a refusal
-pub end-or-row : (word : List ℕ) (line : ℕ) (s : List ℕ) → ((s ≡ []) × (found RowOrEnd word line s ≡ theEnd)) ⊎ ((s ≡ [] → ⊥) × (found RowOrEnd word line s ≡ rowFound line (row 2 s)))
-end-or-row word line [] = inl (refl, refl)
-end-or-row word line (c ∷ s) = inr (λ e. clash cc, refl)
+abbrev pub NoRow : Found → Type 0
+NoRow (aNamesLine s) = Unit
+NoRow (aRow values s) = ⊥
+NoRow theEnd = Unit
+NoRow (aRefusal k carries) = ⊥
 
--- where a row or the end is due and a row was found, the text has not ended
-pub row-at : (t word : List ℕ) (line : ℕ) (s : List ℕ) {a b c d e next : ℕ} → RowAt t (found RowOrEnd word line s) a b c d e next → RowAt t (rowFound line (row 2 s)) a b c d e next
-row-at t word line [] h = absurd (let g = h .is in clash cc)
-row-at t word line (x ∷ s) h = h
+-- what the line reader finds there
+abbrev pub EndsOrRow : Bool → ℕ → Parsed (List ℕ) → Found → Type 0
+EndsOrRow true line p f = NoRow f
+EndsOrRow false line p f = f ≡ rowFound line p
 
-pub not-empty : (t word : List ℕ) (line : ℕ) (s : List ℕ) {a b c d e next : ℕ} → RowAt t (found RowOrEnd word line s) a b c d e next → s ≡ [] → ⊥
-not-empty t word line [] h e = let g = h .is in clash cc
-not-empty t word line (x ∷ s) h e = clash cc
+-- a row that was found is one, so they do not end here
+pub row-at : (t : List ℕ) (ends : Bool) (line : ℕ) (p : Parsed (List ℕ)) (f : Found) {a b c d e next : ℕ} → EndsOrRow ends line p f → RowAt t f a b c d e next
+    → RowAt t (rowFound line p) a b c d e next × (ends ≡ false)
+row-at t true line p f found h = absurd (subst NoRow (h .is) found)
+row-at t false line p f {a} {b} {c} {d} {e} {next} found h = (subst (λ g. RowAt t g a b c d e next) found h, refl)
+
+-- ---- what is due at a move, and that what is found there is the end of the moves or a row; the same at a row of a group
+
+-- where the limits have groups the fourth names line ends the moves too
+abbrev pub moveDue : Limits → Due
+moveDue l = cond (ltb 0 (l .groups)) RowNamesOrEnd RowOrEnd
+
+module _ (line : ℕ) where
+  names-or-row : (s : List ℕ) (names : Parsed (Unit {0})) (p : Parsed (List ℕ)) → EndsOrRow (isEnd s || isRead names) line p (endOr s (namesOr names (rowFound line p)))
+  names-or-row [] names p = tt
+  names-or-row (c ∷ s) fail p = refl
+  names-or-row (c ∷ s) (got u r) p = tt
+
+  end-or-row : (s : List ℕ) (p : Parsed (List ℕ)) → EndsOrRow (isEnd s || false) line p (endOr s (rowFound line p))
+  end-or-row [] p = tt
+  end-or-row (c ∷ s) p = refl
+
+  pub move-found : (l : Limits) (s : List ℕ) → EndsOrRow (movesEnd l s) line (row 2 s) (found (moveDue l) groupNames line s)
+  unfolding movesEnd
+  move-found l s = go (ltb 0 (l .groups))
+    where
+      go : (b : Bool) → EndsOrRow (isEnd s || (b && isRead (names groupNames s))) line (row 2 s) (found (cond b RowNamesOrEnd RowOrEnd) groupNames line s)
+      go true = names-or-row s (names groupNames s) (row 2 s)
+      go false = end-or-row s (row 2 s)
+
+  pub group-found : (word s : List ℕ) → EndsOrRow (isEnd s) line (row 1 s) (found PairOrEnd word line s)
+  group-found word [] = tt
+  group-found word (c ∷ s) = refl
 
 -- ---- a step goes on at a place of the text t, or stops with a refusal
 

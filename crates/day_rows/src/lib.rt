@@ -1,15 +1,16 @@
-// The lines of a day file (document 01), one at a time: a names line, and each kind of row with its conditions.
+// The lines of a day file (documents 01 and 02), one at a time: a names line, and each kind of row with its conditions.
 //
 // Proved: each function answers what dayfile's Reading.antt says of the line at its place. Each takes the good answer of the line reader
-// apart, asks the conditions of the row in the order of 01, and else hands the refusal up. Assumes nothing.
+// apart, asks the conditions of the row in their order, and else hands the refusal up. Assumes nothing.
 ghost use mathlib.Core.Path.{_≡_};
 ghost use mathlib.Core.Bool.{_&&_, _||_};
 ghost use mathlib.Core.List.{[], _∷_};
 ghost use Prim.Native.Nat.{_≤_};
 ghost use lib.Dec.{ltb, eqb};
-ghost use lib.ListN.{length, take, drop};
-ghost use Rattle.dayfile.specs.Reading.{headChecks, trainChecks, moveChecks, position, readNames, readRow};
-ghost use Rattle.day_rows.specs.Steps.{ReadsRow, ReadsMove, NamesTo, refusalOf};
+ghost use lib.ListN.{length, getD, take, drop};
+ghost use Rattle.dayfile.specs.Reading.{headChecks, trainChecks, moveChecks, position, movesEnd, readNames, readRow};
+ghost use Rattle.day_rows.specs.Steps.{ReadsRow, ReadsOrEnds, moveDue, NamesTo, refusalOf};
+ghost use Rattle.day_rows.specs.Members.{ReadsGroup};
 use day::Limits;
 use day::Refusal;
 use lines::Due;
@@ -28,11 +29,19 @@ pub fn position_of(numbers: &[u32], n: usize, x: u32) -> usize
     n
 }
 
-// Whether the pair of a move comes after that of the move before, by to and then by from.
-fn is_pair_after(to0: u32, from0: u32, to: u32, from: u32) -> bool
-    ensures { λ r. ⌜ r ≡ (ltb to0 to || (eqb to0 to && ltb from0 from)) ⌝ }
+// Whether the pair (a, b) of a row comes after that of the row before, by its first value and then by its second.
+fn is_pair_after(a0: u32, b0: u32, a: u32, b: u32) -> bool
+    ensures { λ r. ⌜ r ≡ (ltb a0 a || (eqb a0 a && ltb b0 b)) ⌝ }
 {
-    (to0 < to) | ((to0 == to) & (from0 < from))
+    (a0 < a) | ((a0 == a) & (b0 < b))
+}
+
+// Whether position i is one of the first n and in no group.
+fn is_free(groups: &[u8], n: usize, i: usize) -> bool
+    requires { ⌜ n ≤ length (now groups) ⌝ }
+    ensures { λ r. ⌜ r ≡ (ltb i n && eqb (getD (now (groups .entry)) i 0) 0) ⌝ }
+{
+    if i < n { groups[i] == 0 } else { false }
 }
 
 // Reads the row of the first section: its form, then its limits (3).
@@ -92,8 +101,19 @@ pub fn read_train(l: Limits, text: &[u8], at: usize, line: usize, slots: u32, be
     row
 }
 
-// Reads a move's row: its form, then its limits (3), then 6 and 7; the end of the text is handed up as it is. (to0, from0) is the pair
-// of the row before, zeros at the first.
+// What is due where a move may stand: where the limits have groups, their names line ends the moves, as the end of the text does.
+fn move_due(l: Limits) -> Due
+    ensures { λ r. ⌜ r ≡ moveDue l ⌝ }
+{
+    if 0 < l.groups {
+        Due::RowNamesOrEnd
+    } else {
+        Due::RowOrEnd
+    }
+}
+
+// Reads a move's row: its form, then its limits (3), then 6 and 7; what ends the moves is handed up as it is. (to0, from0) is the pair of
+// the row before, zeros at the first.
 pub fn read_move(
     l: Limits,
     text: &[u8],
@@ -105,9 +125,9 @@ pub fn read_move(
     from0: u32,
 ) -> Line
     requires { ⌜ n ≤ length (now numbers) ⌝ }
-    ensures { λ r. ⌜ ReadsMove (now (text .entry)) (drop at (now (text .entry))) (readRow 2 line (moveChecks l (take n (now (numbers .entry))) (to0 ∷ from0 ∷ 0 ∷ []) line) (drop at (now (text .entry)))) r ⌝ }
+    ensures { λ r. ⌜ ReadsOrEnds 2 (movesEnd l (drop at (now (text .entry)))) (now (text .entry)) (readRow 2 line (moveChecks l (take n (now (numbers .entry))) (to0 ∷ from0 ∷ 0 ∷ []) line) (drop at (now (text .entry)))) r ⌝ }
 {
-    let row = lines::read_line(text, at, line, Due::RowOrEnd, b"");
+    let row = lines::read_line(text, at, line, move_due(l), &dayfile::GROUP_NAMES);
     let Line::Row {
         a: to,
         b: from,
@@ -129,6 +149,46 @@ pub fn read_move(
     }
     if !is_pair_after(to0, from0, to, from) {
         return Line::Refused(Refusal::PairOrder(line));
+    }
+    row
+}
+
+// Reads a row of a group: its form, then its limits (3), then 15, which the train gets that is unlisted or in a group already and a pair
+// out of order; the end of the text is handed up as it is. `groups` holds the groups so far, 0 where there is none; (group0, train0) is
+// the pair of the row before, zeros at the first.
+pub fn read_group(
+    l: Limits,
+    text: &[u8],
+    at: usize,
+    line: usize,
+    numbers: &[u32],
+    n: usize,
+    groups: &[u8],
+    group0: u32,
+    train0: u32,
+) -> Line
+    requires { ⌜ (n ≤ length (now numbers)) × (n ≤ length (now groups)) ⌝ }
+    ensures { λ r. ⌜ ReadsGroup l (take n (now (numbers .entry))) (now (groups .entry)) (group0 ∷ train0 ∷ []) line (now (text .entry)) (drop at (now (text .entry))) r ⌝ }
+{
+    let row = lines::read_line(text, at, line, Due::PairOrEnd, b"");
+    let Line::Row {
+        a: group,
+        b: train,
+        c: _,
+        d: _,
+        e: _,
+        next: _,
+    } = row
+    else {
+        return row;
+    };
+    if !day::group_within(l, group as u64, train as u64) {
+        return Line::Refused(Refusal::OutOfLimits(line));
+    }
+    let i = position_of(numbers, n, train);
+    let free = is_free(groups, n, i);
+    if !(free & is_pair_after(group0, train0, group, train)) {
+        return Line::Refused(Refusal::GroupRow(line));
     }
     row
 }

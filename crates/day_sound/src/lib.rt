@@ -8,7 +8,7 @@ ghost use Prim.Native.Nat.{_≤_, _<_, _*_};
 ghost use lib.ListN.{length};
 ghost use Rattle.fold.specs.Fold.{each};
 ghost use Rattle.model.specs.Cells.{InTable};
-ghost use Rattle.day.specs.Sound.{dayLimits, yard, dayFrom, within, headRanges, numberBefore, trainSound, unused, positionSound, pairSound, receiverSound, sound};
+ghost use Rattle.day.specs.Sound.{dayLimits, yard, dayFrom, within, headRanges, numberBefore, trainSound, unused, positionSound, groupSound, pairSound, receiverSound, sound};
 use day::Day;
 use day::Head;
 use day::Limits;
@@ -126,6 +126,31 @@ fn boxes_sound(l: Limits, n: usize, width: usize, boxes: &[u8]) -> bool
     true
 }
 
+// Position i is in no group or in one of the limits' numbers, and in none where it holds no train.
+fn group_sound(l: Limits, n: usize, groups: &[u8], i: usize) -> bool
+    requires { ⌜ i < length (now groups) ⌝ }
+    ensures { λ r. ⌜ r ≡ groupSound l n (now (groups .entry)) i ⌝ }
+{
+    if i < n {
+        groups[i] <= l.groups
+    } else {
+        groups[i] == 0
+    }
+}
+
+fn groups_sound(l: Limits, n: usize, groups: &[u8]) -> bool
+    requires { ⌜ l .trains ≤ length (now groups) ⌝ }
+    ensures { λ r. ⌜ r ≡ each (l .trains) (groupSound l n (now (groups .entry))) ⌝ }
+{
+    let all = l.trains;
+    for i in 0..all {
+        if !group_sound(l, n, groups, i) {
+            return false;
+        }
+    }
+    true
+}
+
 fn is_head_sound(l: Limits, head: Head) -> bool
     ensures { λ r. ⌜ r ≡ within (headRanges l) (head .trains ∷ head .tracks ∷ head .slots ∷ head .revisit ∷ head .split ∷ []) ⌝ }
 {
@@ -139,21 +164,23 @@ fn is_head_sound(l: Limits, head: Head) -> bool
     )
 }
 
-// Whether a day is sound that is given by its head, three columns and a table of boxes, each as long as the limits say.
+// Whether a day is sound that is given by its head, four columns and a table of boxes, each as long as the limits say.
 pub fn is_file_sound(
     l: Limits,
     head: Head,
     numbers: &[u32],
     first: &[u8],
     last: &[u8],
+    groups: &[u8],
     boxes: &[u8],
 ) -> bool
-    requires { ⌜ (length (now numbers) ≡ l .trains) × ((length (now first) ≡ l .trains) × ((length (now last) ≡ l .trains) × (length (now boxes) ≡ l .trains * l .trains))) ⌝ }
-    ensures { λ r. ⌜ r ≡ sound l (dayFrom head (now (numbers .entry)) (now (first .entry)) (now (last .entry)) (l .trains) (now (boxes .entry))) ⌝ }
+    requires { ⌜ (length (now numbers) ≡ l .trains) × ((length (now first) ≡ l .trains) × ((length (now last) ≡ l .trains) × ((length (now groups) ≡ l .trains) × (length (now boxes) ≡ l .trains * l .trains)))) ⌝ }
+    ensures { λ r. ⌜ r ≡ sound l (dayFrom head (now (numbers .entry)) (now (first .entry)) (now (last .entry)) (now (groups .entry)) (l .trains) (now (boxes .entry))) ⌝ }
 {
     is_head_sound(l, head)
         & positions_sound(l, head.trains, head.slots, numbers, first, last)
         & boxes_sound(l, head.trains, l.trains, boxes)
+        & groups_sound(l, head.trains, groups)
 }
 
 // Whether a record is sound: some day file reads to it. For every record, sound or not.
@@ -163,6 +190,7 @@ pub fn is_sound(day: Day) -> bool
     let numbers = day.numbers;
     let first = day.first;
     let last = day.last;
+    let groups = day.groups;
     let boxes = day.boxes;
     is_file_sound(
         day::day_limits(),
@@ -170,6 +198,7 @@ pub fn is_sound(day: Day) -> bool
         &numbers,
         &first,
         &last,
+        &groups,
         &boxes,
     )
 }

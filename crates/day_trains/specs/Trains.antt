@@ -13,7 +13,7 @@ use Rattle.day.specs.SoundLaws.{within-is}
 use Rattle.day.specs.declared.Limits.{Limits}
 use Rattle.day.specs.declared.Refusal.{Refusal}
 use Rattle.dayfile.specs.Reading.{field1, field2, field3, trainChecks, RowRest, readRow, Rows, addRow, readTrains}
-use Rattle.dayfile.specs.Files.{row-line-read}
+use Rattle.dayfile.specs.LineLaws.{row-line-read}
 use Rattle.day_rows.specs.Steps.{rowRest, RowTo}
 use Rattle.day_rows.specs.declared.Step.{Step}
 use Rattle.day_rows.specs.declared.Step.the-variants.{Next, Refused as Stopped}

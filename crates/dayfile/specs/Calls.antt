@@ -15,7 +15,7 @@ use Rattle.output.specs.Output.{writes, leaves}
 use Rattle.output.specs.Laws.{fits, Filled, filled}
 use Rattle.dayfile.specs.Reading.{readDay}
 use Rattle.dayfile.specs.Writing.{dayText}
-use Rattle.dayfile.specs.Files.{Short}
+use Rattle.dayfile.specs.Sections.{Short}
 use Rattle.dayfile.specs.RoundTrip.{write-read, read-write, read-sound}
 
 -- ---- reading: the day, or with a refusal a record of zeros
@@ -30,6 +30,7 @@ zeroDay l = record {
   numbers = replicate (l .trains) 0;
   first = replicate (l .trains) 0;
   last = replicate (l .trains) 0;
+  groups = replicate (l .trains) 0;
   width = l .trains;
   boxes = replicate (l .trains * l .trains) 0;
 }
@@ -44,27 +45,27 @@ abbrev pub dayChecks : Limits → Yard → List Check
 dayChecks l y = must (sound l y) 8 (0 ∷ []) ∷ []
 
 abbrev pub dayWrites : Limits → Yard → ℕ → Answer ℕ
-dayWrites l y size = writes (dayChecks l y) (dayText y) size
+dayWrites l y size = writes (dayChecks l y) (dayText l y) size
 
 abbrev pub dayLeaves : Limits → Yard → List ℕ → List ℕ
-dayLeaves l y out = leaves (dayChecks l y) (dayText y) out
+dayLeaves l y out = leaves (dayChecks l y) (dayText l y) out
 
-pub day-filled : (l : Limits) (y : Yard) (out : List ℕ) → Filled (dayText y) out (dayWrites l y (length out)) (dayLeaves l y out)
-day-filled l y out = filled (dayChecks l y) (dayText y) out
+pub day-filled : (l : Limits) (y : Yard) (out : List ℕ) → Filled (dayText l y) out (dayWrites l y (length out)) (dayLeaves l y out)
+day-filled l y out = filled (dayChecks l y) (dayText l y) out
 
 -- ---- the round trips
 
 module _ (l : Limits) (short : Short l) where
   -- what writing leaves in a long enough output, read, gives the day
-  pub written-reads : (y : Yard) (out : List ℕ) → T (sound l y) → length (dayText y) ≤ length out
+  pub written-reads : (y : Yard) (out : List ℕ) → T (sound l y) → length (dayText l y) ≤ length out
       → (k : ℕ) × (dayWrites l y (length out) ≡ gives k) × (readDay l (take k (dayLeaves l y out)) ≡ gives y)
-  written-reads y out s h = let (a, t) = fits (dayText y) out (dayChecks l y) (s, tt) h in (length (dayText y), a, ap (readDay l) t ∙ write-read l y short s)
+  written-reads y out s h = let (a, t) = fits (dayText l y) out (dayChecks l y) (s, tt) h in (length (dayText l y), a, ap (readDay l) t ∙ write-read l y short s)
 
   -- what reading accepts, written into a long enough output, gives the same bytes
   pub read-writes : (text : List ℕ) (y : Yard) (out : List ℕ) → readDay l text ≡ gives y → length text ≤ length out
       → (dayWrites l y (length out) ≡ gives (length text)) × (take (length text) (dayLeaves l y out) ≡ text)
   read-writes text y out r h =
-      let e : text ≡ dayText y = read-write l text y r in
+      let e : text ≡ dayText l y = read-write l text y r in
       let s = read-sound l text y r in
-      let (a, t) = fits (dayText y) out (dayChecks l y) (s, tt) (omega (arith, ap length e)) in
+      let (a, t) = fits (dayText l y) out (dayChecks l y) (s, tt) (omega (arith, ap length e)) in
       rw e (a, t)

@@ -1,10 +1,13 @@
 pub mod Reading
 pub mod Writing
+pub mod LineLaws
+pub mod Sections
 pub mod Files
 pub mod Trains
 pub mod Places
+pub mod Stored
 pub mod Moves
-pub mod Fine
+pub mod Groups
 pub mod RoundTrip
 pub mod Calls
 pub mod Size

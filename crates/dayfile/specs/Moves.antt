@@ -1,229 +1,252 @@
--- The moves of a file and the table of boxes of a day: moves at rising places are found again in the table that they are stored in,
--- and a table is the one that its moves make.
+-- The moves of a file and the table of boxes of a day: moves that keep the rules make a table all of whose pairs are sound, and the rows
+-- of such a table keep them; they determine each other.
 -- Assumes nothing.
 use mathlib.Core.Path.{_≡_, refl, sym, ap, ap₂, _∙_, subst}
-use mathlib.Core.Bool.{cond}
-use mathlib.Core.List.{List, [], _∷_, _++_}
-use mathlib.Core.Logic.{_⊎_, inl, inr, ⊎-elim, _≢_}
-use Prim.Native.Nat.{ℕ, zero, suc, _+_, _*_, _≤_, _<_}
-use native.Mathlib.Nat.{le-trans, add-zero, zero-add, add-suc, suc-add}
+use mathlib.Core.Bool.{Bool, true, false, not, cond, _&&_}
+use mathlib.Core.List.{List, [], _∷_}
+use mathlib.Core.Logic.{_⊎_, inl, inr, ⊎-elim}
+use Prim.Native.Nat.{ℕ, zero, suc, _+_, _*_, _/_, _%_, _≤_, _<_}
+use native.Mathlib.Nat.{div-add-mod', div-lt-iff-lt-mul, mod-lt}
 use native.Mathlib.Omega.{arith}
-use lib.Dec.{eqb}
-use lib.ListN.{length, getD, set, replicate, length-set, length-replicate, getD-replicate}
-use lib.Seq.{getD-set-same, getD-set-other, ext-getD}
-use borrow.Author.Tests.{eq-eqb, ne-eqb}
-use Rattle.fold.specs.Counting.{le-or-lt, same-or}
-use Rattle.fold.specs.Listed.{joined, joined-cons}
-use Rattle.dayfile.specs.Reading.{field3, placeOf, stored}
+use lib.Arith.{digits-div, digits-mod, digits-lt}
+use lib.Dec.{T, ltb, leb, eqb, ltb→lt, lt→ltb, leb→le, le→leb, eqb→eq, not-T}
+use lib.ListN.{length, getD, replicate}
+use borrow.Author.Tests.{eq-eqb, ne-eqb, lt-ltb}
+use Rattle.fold.specs.Test.{of-true, both, both-of, left, not-of}
+use Rattle.fold.specs.Listed.{joined}
+use Rattle.day.specs.Sound.{within, moveRanges, pairSound}
+use Rattle.day.specs.SoundLaws.{within-is}
+use Rattle.day.specs.declared.Limits.{Limits}
+use Rattle.dayfile.specs.Reading.{field1, field2, field3, position, isListed, pairAfter, placeOf, storedMoves}
 use Rattle.dayfile.specs.Writing.{moveRow, moveRows}
+use Rattle.dayfile.specs.Sections.{FineMoves, is-within}
+use Rattle.dayfile.specs.Trains.{Rising, InLimits}
+use Rattle.dayfile.specs.Places.{Listed, position-same, position-there, place-inside, place-row, after-place, place-after}
+use Rattle.dayfile.specs.Stored.{In, in-joined, joined-in, Rise, rise-joined, rise-one, zero-sound, Made, Holds, rows-same, table-back, stored-holds}
 
--- ---- moves at rising places, from p on, each with at least one box
+-- ---- a move that keeps the rules but for its order
 
-pub record At (numbers : List ℕ) (width p : ℕ) (r : List ℕ) : Type 0 where
-  pub after : p ≤ placeOf numbers width r
-  pub inside : placeOf numbers width r < width * width
-  pub row : moveRow numbers width (placeOf numbers width r) (field3 r) ≡ r
-  pub some : 1 ≤ field3 r
+record Good (l : Limits) (numbers r : List ℕ) : Type 0 where
+  fields : length r ≡ 3
+  limits : T (within (moveRanges l) r)
+  trains : T (isListed numbers (field1 r) && isListed numbers (field2 r) && not (eqb (field1 r) (field2 r)))
 
-abbrev pub Placed : List ℕ → ℕ → ℕ → List (List ℕ) → Type 0
-Placed numbers width p [] = Unit
-Placed numbers width p (r ∷ moves) = At numbers width p r × Placed numbers width (suc (placeOf numbers width r)) moves
+-- boxes and the moves that they make, in the order of their places
+abbrev Boxes : List ℕ → ℕ → List ℕ → List (List ℕ) → Type 0
+Boxes numbers width = Holds (placeOf numbers width) (placeOf numbers width) field3 (moveRow numbers width) (width * width)
 
--- the boxes of the move at place q, 0 where there is none
-unfoldable pub amount : List ℕ → ℕ → List (List ℕ) → ℕ → ℕ
-amount numbers width [] q = 0
-amount numbers width (r ∷ moves) q = cond (eqb (placeOf numbers width r) q) (field3 r) (amount numbers width moves q)
+-- the moves of a table
+abbrev pub movesOf : ℕ → List ℕ → List ℕ → List (List ℕ)
+movesOf width boxes numbers = joined (width * width) (moveRows numbers width boxes)
 
-module _ (numbers : List ℕ) (width : ℕ) where
-  at : List ℕ → ℕ
-  at r = placeOf numbers width r
+module _ (l : Limits) (numbers : List ℕ) where
+  good-listed : (r : List ℕ) → Good l numbers r → Listed numbers r
+  good-listed r g =
+      let (a, b) = both-of (isListed numbers (field1 r) && isListed numbers (field2 r)) (not (eqb (field1 r) (field2 r))) (g .trains) in
+      let (t, f) = both-of (isListed numbers (field1 r)) (isListed numbers (field2 r)) a in
+      record { to = ltb→lt (position numbers (field1 r)) (length numbers) t; «from» = ltb→lt (position numbers (field2 r)) (length numbers) f }
 
-  amount-here : (r : List ℕ) (moves : List (List ℕ)) (q : ℕ) → placeOf numbers width r ≡ q → amount numbers width (r ∷ moves) q ≡ field3 r
-  unfolding amount
-  amount-here r moves q e = ap (λ b. cond b (field3 r) (amount numbers width moves q)) (eq-eqb (placeOf numbers width r) q e)
+  good-apart : (r : List ℕ) → Good l numbers r → field1 r ≡ field2 r → ⊥
+  good-apart r g e =
+      let (a, b) = both-of (isListed numbers (field1 r) && isListed numbers (field2 r)) (not (eqb (field1 r) (field2 r))) (g .trains) in
+      not-of (eqb (field1 r) (field2 r)) b (of-true (eq-eqb (field1 r) (field2 r) e))
 
-  amount-there : (r : List ℕ) (moves : List (List ℕ)) (q : ℕ) → (placeOf numbers width r ≡ q → ⊥) → amount numbers width (r ∷ moves) q ≡ amount numbers width moves q
-  unfolding amount
-  amount-there r moves q e = ap (λ b. cond b (field3 r) (amount numbers width moves q)) (ne-eqb (placeOf numbers width r) q e)
+  -- its numbers and its boxes are at least 1, its boxes at most the limit
+  good-boxes : (r : List ℕ) → Good l numbers r → (1 ≤ field1 r) × (1 ≤ field3 r) × (field3 r ≤ l .boxes)
+  unfolding moveRanges
+  good-boxes [] g = absurd (let e = g .fields in omega arith)
+  good-boxes (a ∷ []) g = absurd (let e = g .fields in omega arith)
+  good-boxes (a ∷ b ∷ []) g = absurd (let e = g .fields in omega arith)
+  good-boxes (a ∷ b ∷ c ∷ r) g =
+      let (x, (y, (z, u))) = within-is (moveRanges l) (a ∷ b ∷ c ∷ r) (g .limits) in
+      (x .0, z .0, z .1)
 
-  -- no move stands before the first place
-  amount-before : (moves : List (List ℕ)) (p q : ℕ) → Placed numbers width p moves → q < p → amount numbers width moves q ≡ 0
-  unfolding amount
-  amount-before [] p q f h = refl
-  amount-before (r ∷ moves) p q f h =
-      let a = f .0 .after in
-      amount-there r moves q (λ e. omega arith) ∙ amount-before moves (suc (placeOf numbers width r)) q (f .1) (omega arith)
+  good-of : (before r : List ℕ) (moves : List (List ℕ)) → FineMoves l numbers before (r ∷ moves) → Good l numbers r
+  good-of before r moves f = record { fields = f .0; limits = f .1 .0; trains = f .1 .1 .0 }
 
-  pub placed-on : (moves : List (List ℕ)) (p q : ℕ) → q ≤ p → Placed numbers width p moves → Placed numbers width q moves
-  placed-on [] p q h f = tt
-  placed-on (r ∷ moves) p q h f =
-      let a = f .0 in
-      (record { after = le-trans h (a .after); inside = a .inside; row = a .row; some = a .some }, f .1)
+  fine-good : (moves : List (List ℕ)) (before : List ℕ) → FineMoves l numbers before moves → (r : List ℕ) → In r moves → Good l numbers r
+  fine-good (s ∷ moves) before f r (inl e) = subst (λ (x : List ℕ). Good l numbers x) (sym e) (good-of before s moves f)
+  fine-good (s ∷ moves) before f r (inr m) = fine-good moves s (f .2) r m
 
-  -- ---- what the table holds
+  module _ (width : ℕ) (few : length numbers ≤ width) (up : Rising numbers) where
+    abbrev place : List ℕ → ℕ
+    place = placeOf numbers width
 
-  -- below the first place it is unchanged; from there on, where it was 0, it holds the moves' boxes
-  stored-at : (moves : List (List ℕ)) (table : List ℕ) (p q : ℕ) → Placed numbers width p moves → width * width ≤ length table → q < length table
-      → ((k : ℕ) → p ≤ k → k < length table → getD table k 0 ≡ 0)
-      → (q < p → getD (stored numbers width table moves) q 0 ≡ getD table q 0) × (p ≤ q → getD (stored numbers width table moves) q 0 ≡ amount numbers width moves q)
-  unfolding stored amount
-  stored-at [] table p q f big h zeros = (λ l. refl, λ l. zeros q l h)
-  stored-at (r ∷ moves) table p q f big h zeros =
-      let a = f .0 in
-      let m : ℕ = placeOf numbers width r in
-      let after : p ≤ m = a .after in
-      let inside : m < length table = omega (arith, a .inside) in
-      let size : length (set table m (field3 r)) ≡ length table = length-set table m (field3 r) in
-      let rest =
-      stored-at moves (set table m (field3 r)) (suc m) q (f .1) (omega arith) (omega arith)
-      (λ k g i. getD-set-other table m k (field3 r) 0 (λ e. omega arith) ∙ zeros k (omega arith) (omega arith)) in (
-        λ l. rest .0 (omega arith) ∙ getD-set-other table m q (field3 r) 0 (λ e. omega arith),
-        λ l. ⊎-elim
-            (λ (e : q ≡ m).
-            rest .0 (omega arith) ∙ ap (λ k. getD (set table m (field3 r)) k 0) e ∙ getD-set-same table m (field3 r) 0 inside ∙ sym (amount-here r moves q (sym e)))
-            (λ (d : q ≢ m).
-            ⊎-elim
-            (λ (g : suc m ≤ q). rest .1 g ∙ sym (amount-there r moves q (λ e. d (sym e))))
-            (λ (g : q < suc m).
-            rest .0 g ∙ getD-set-other table m q (field3 r) 0 d ∙ zeros q l h
-            ∙ sym (amount-before moves (suc m) q (f .1) g) ∙ sym (amount-there r moves q (λ e. d (sym e))))
-            (le-or-lt (suc m) q))
-            (same-or q m),
-      )
+    -- ---- moves that keep the rules: their places rise, so the table holds them
 
-  pub length-stored : (moves : List (List ℕ)) (table : List ℕ) → length (stored numbers width table moves) ≡ length table
-  unfolding stored
-  length-stored [] table = refl
-  length-stored (r ∷ moves) table = length-stored moves (set table (placeOf numbers width r) (field3 r)) ∙ length-set table (placeOf numbers width r) (field3 r)
+    good-made : (r : List ℕ) → Good l numbers r → Made (placeOf numbers width) field3 (moveRow numbers width) (width * width) r
+    good-made r g = record {
+      inside = place-inside numbers width few r (good-listed r g);
+      some = good-boxes r g .1;
+      row = place-row numbers width few r (g .fields) (good-listed r g);
+    }
 
-  pub table-at : (moves : List (List ℕ)) (q : ℕ) → Placed numbers width 0 moves → q < width * width
-      → getD (stored numbers width (replicate (width * width) 0) moves) q 0 ≡ amount numbers width moves q
-  table-at moves q f h =
-      let size = length-replicate {A = ℕ} (width * width) 0 in
-      stored-at moves (replicate (width * width) 0) 0 q f (omega arith) (omega arith) (λ k l g. getD-replicate (width * width) k 0 0 (omega arith)) .1 (omega arith)
+    fine-rise : (moves : List (List ℕ)) (before : List ℕ) (p : ℕ) → ((r : List ℕ) → Listed numbers r → T (pairAfter before r) → p ≤ place r)
+        → FineMoves l numbers before moves → Rise place p (width * width) moves
+    fine-rise [] before p gap f = tt
+    fine-rise (r ∷ moves) before p gap f =
+        let k = good-listed r (good-of before r moves f) in (
+          gap r k (f .1 .1 .1 .0),
+          place-inside numbers width few r k,
+          fine-rise moves r (suc (place r)) (λ s q t. after-place numbers width few up r s k q t) (f .2),
+        )
 
-  -- ---- moves from the table that they make
+    fine-boxes : (moves : List (List ℕ)) → FineMoves l numbers (0 ∷ 0 ∷ 0 ∷ []) moves
+        → Boxes numbers width (storedMoves numbers width (replicate (width * width) 0) moves) moves
+    fine-boxes moves f =
+        let rise = fine-rise moves (0 ∷ 0 ∷ 0 ∷ []) 0 (λ r k t. omega arith) f in
+        stored-holds place place field3 (moveRow numbers width) (width * width) moves (width * width) rise
+        (λ r m. good-made r (fine-good moves (0 ∷ 0 ∷ 0 ∷ []) f r m)) (λ r s. rise-one place moves 0 (width * width) r s rise)
 
-  -- the row of x boxes at place q, none where x is 0
-  rowAt : ℕ → ℕ → List (List ℕ)
-  rowAt q x = cond (eqb x 0) [] (moveRow numbers width q x ∷ [])
+    -- every pair of that table is sound
+    pub pairs-sound : (moves : List (List ℕ)) → FineMoves l numbers (0 ∷ 0 ∷ 0 ∷ []) moves → (i j : ℕ) → i < width → j < width
+        → T (pairSound l (length numbers) width (storedMoves numbers width (replicate (width * width) 0) moves) i j)
+    unfolding pairSound
+    pairs-sound moves f i j hi hj =
+        let table : List ℕ = storedMoves numbers width (replicate (width * width) 0) moves in
+        let held = fine-boxes moves f in
+        ⊎-elim
+        (λ z. rw z (zero-sound (ltb i (length numbers) && ltb j (length numbers) && not (eqb i j)) (l .boxes)))
+        (λ w.
+        let (r, m, e) = w in
+        let x : getD table (i * width + j) 0 ≡ field3 r = ap (λ q. getD table q 0) (sym e) ∙ held .there r m in
+        let g = fine-good moves (0 ∷ 0 ∷ 0 ∷ []) f r m in
+        let k = good-listed r g in
+        let p : position numbers (field1 r) ≡ i =
+        sym (digits-div (position numbers (field1 r)) {m = width} {r = position numbers (field2 r)} (omega (arith, k .«from»))) ∙ ap (λ k. k / width) e ∙ digits-div i {m = width} {r = j} hj in
+        let s : position numbers (field2 r) ≡ j =
+        sym (digits-mod (position numbers (field1 r)) {m = width} {r = position numbers (field2 r)} (omega (arith, k .«from»))) ∙ ap (λ k. k % width) e ∙ digits-mod i {m = width} {r = j} hj in
+        let differ : i ≡ j → ⊥ = λ d. good-apart r g (position-same numbers (field1 r) (field2 r) (k .to) (k .«from») (p ∙ d ∙ sym s)) in
+        rw (x, lt-ltb i (length numbers) (omega (arith, k .to)), lt-ltb j (length numbers) (omega (arith, k .«from»)), ne-eqb i j differ) (le→leb (field3 r) (l .boxes) (good-boxes r g .2)))
+        (held .elsewhere (i * width + j) (digits-lt {q = i} {m = width} {r = j} {c = width} hi hj))
 
-  no-row : (q x : ℕ) → x ≡ 0 → rowAt q x ≡ []
-  unfolding rowAt
-  no-row q x e = ap (λ b. cond b [] (moveRow numbers width q x ∷ [])) (eq-eqb x 0 e)
+    -- ---- the moves of a table, which come in the order of their places
 
-  one-row : (q x : ℕ) → 1 ≤ x → rowAt q x ≡ moveRow numbers width q x ∷ []
-  unfolding rowAt
-  one-row q x h = ap (λ b. cond b [] (moveRow numbers width q x ∷ [])) (ne-eqb x 0 (λ e. omega arith))
+    rise-fine : (moves : List (List ℕ)) (before : List ℕ) (a b : ℕ) → Rise place a b moves → ((r : List ℕ) → In r moves → Good l numbers r)
+        → ((r : List ℕ) → Good l numbers r → a ≤ place r → T (pairAfter before r)) → FineMoves l numbers before moves
+    rise-fine [] before a b rise good gap = tt
+    rise-fine (r ∷ moves) before a b (after, below, rest) good gap =
+        let g = good r (inl refl) in (
+          g .fields,
+          (g .limits, (g .trains, (gap r g after, tt))),
+          rise-fine moves r (suc (place r)) b rest (λ s m. good s (inr m)) (λ s o h. place-after numbers width few up r s (good-listed r g) (good-listed s o) h),
+        )
 
-  -- m places from p on: the rows of the amounts are the moves
-  rows-back : (m p : ℕ) (moves : List (List ℕ)) (f : ℕ → List (List ℕ)) → Placed numbers width p moves → width * width ≤ p + m
-      → ((k : ℕ) → k < m → f k ≡ rowAt (p + k) (amount numbers width moves (p + k))) → joined m f ≡ moves
-  unfolding joined
-  rows-back zero p [] f h g e = refl
-  rows-back zero p (r ∷ moves) f h g e = absurd (let a = h .0 .after in let b = h .0 .inside in omega arith)
-  rows-back (suc m) p moves f h g e = joined-cons m f ∙ step moves h (e 0 (omega arith) ∙ ap (λ q. rowAt q (amount numbers width moves q)) (add-zero p)) (λ k l. e (suc k) (omega arith) ∙ ap (λ q. rowAt q (amount numbers width moves q)) (add-suc p k ∙ sym (suc-add p k))) (λ rest q t. rows-back m (suc p) rest (λ k. f (suc k)) q (omega arith) t)
-    where
-      step : (moves : List (List ℕ)) → Placed numbers width p moves → f 0 ≡ rowAt p (amount numbers width moves p)
-          → ((k : ℕ) → k < m → f (suc k) ≡ rowAt (suc p + k) (amount numbers width moves (suc p + k)))
-          → ((rest : List (List ℕ)) → Placed numbers width (suc p) rest → ((k : ℕ) → k < m → f (suc k) ≡ rowAt (suc p + k) (amount numbers width rest (suc p + k))) → joined m (λ k. f (suc k)) ≡ rest)
-          → f 0 ++ joined m (λ k. f (suc k)) ≡ moves
-      step [] h e later rest =
-          ap₂ (λ (x y : List (List ℕ)). x ++ y) (e ∙ no-row p (amount numbers width [] p) (amount-before [] (suc p) p tt (omega arith))) (rest [] tt later)
-      step (r ∷ moves) h e later rest =
-          let a = h .0 .after in
-          ⊎-elim
-          (λ (s : p ≡ placeOf numbers width r).
-          let x : amount numbers width (r ∷ moves) p ≡ field3 r = amount-here r moves p (sym s) in
-          let here : f 0 ≡ r ∷ [] =
-          e ∙ one-row p (amount numbers width (r ∷ moves) p) (omega (arith, x, h .0 .some))
-          ∙ ap₂ (λ q y. moveRow numbers width q y ∷ []) s x ∙ ap (λ (z : List ℕ). z ∷ []) (h .0 .row) in
-          ap₂ (λ (x y : List (List ℕ)). x ++ y) here
-          (rest moves (subst (λ q. Placed numbers width (suc q) moves) (sym s) (h .1))
-          (λ k l. later k l ∙ ap (rowAt (suc p + k)) (amount-there r moves (suc p + k) (λ z. omega arith)))))
-          (λ (s : p ≢ placeOf numbers width r).
-          let on : Placed numbers width (suc p) (r ∷ moves) = (record { after = omega arith; inside = h .0 .inside; row = h .0 .row; some = h .0 .some }, h .1) in
-          ap₂ (λ (x y : List (List ℕ)). x ++ y) (e ∙ no-row p (amount numbers width (r ∷ moves) p) (amount-before (r ∷ moves) (suc p) p on (omega arith)))
-          (rest (r ∷ moves) on later))
-          (same-or p (placeOf numbers width r))
+    -- x boxes at place q: no row where there are none, else one
+    Row : ℕ → ℕ → List (List ℕ) → Type 0
+    Row q x rows = ((x ≡ 0) × (rows ≡ [])) ⊎ ((r : List ℕ) × (rows ≡ r ∷ []) × (place r ≡ q) × (field3 r ≡ x) × Good l numbers r)
 
-  pub moves-back : (moves : List (List ℕ)) → Placed numbers width 0 moves
-      → joined (width * width) (moveRows numbers width (stored numbers width (replicate (width * width) 0) moves)) ≡ moves
-  unfolding moveRows rowAt
-  moves-back moves f =
-      rows-back (width * width) 0 moves (moveRows numbers width (stored numbers width (replicate (width * width) 0) moves)) f (omega arith)
-      (λ k h. ap (λ x. cond (eqb x 0) [] (moveRow numbers width k x ∷ [])) (table-at moves k f h) ∙ ap (λ q. rowAt q (amount numbers width moves q)) (sym (zero-add k)))
+    row-in : (q x : ℕ) (rows : List (List ℕ)) → Row q x rows → (r : List ℕ) → In r rows → (place r ≡ q) × (field3 r ≡ x) × Good l numbers r
+    unfolding Row
+    row-in q x [] (inl w) r m = absurd m
+    row-in q x (s ∷ rows) (inl w) r m = absurd (omega (arith, ap length (w .1)))
+    row-in q x rows (inr w) r m =
+        let (s, e, p, v, g) = w in
+        ⊎-elim (λ d. rw d (p, v, g)) absurd (subst (λ (u : List (List ℕ)). In r u) e m)
 
-  -- ---- the table from the moves that it gives
-
-  -- each place holds no boxes, or a move whose place it is
-  abbrev pub Entries : ℕ → ℕ → (ℕ → List (List ℕ)) → Type 0
-  Entries m p f = (k : ℕ) → k < m → (f k ≡ []) ⊎ ((r : List ℕ) × (f k ≡ r ∷ []) × (placeOf numbers width r ≡ p + k) × At numbers width (p + k) r)
-
-  entries-later : (m p : ℕ) (f : ℕ → List (List ℕ)) → Entries (suc m) p f → Entries m (suc p) (λ k. f (suc k))
-  entries-later m p f h k l = subst (λ q. (f (suc k) ≡ []) ⊎ ((r : List ℕ) × (f (suc k) ≡ r ∷ []) × (placeOf numbers width r ≡ q) × At numbers width q r)) (add-suc p k ∙ sym (suc-add p k)) (h (suc k) (omega arith))
-
-  pub entries-placed : (m p : ℕ) (f : ℕ → List (List ℕ)) → Entries m p f → Placed numbers width p (joined m f)
-  unfolding joined
-  entries-placed zero p f h = tt
-  entries-placed (suc m) p f h =
-      let rest = entries-placed m (suc p) (λ k. f (suc k)) (entries-later m p f h) in
-      rw (joined-cons m f)
-      (⊎-elim
-      (λ e. rw e (placed-on (joined m λ k. f (suc k)) (suc p) p (omega arith) rest))
-      (λ w.
-      let (r, e, q, a) = w in
-      rw e (subst (λ k. At numbers width k r) (add-zero p) a, subst (λ k. Placed numbers width (suc k) (joined m λ k. f (suc k))) (sym (q ∙ add-zero p)) rest))
-      (h 0 (omega arith)))
-
-  -- the amount at a place is that of its entry
-  pub entries-amount : (m p : ℕ) (f : ℕ → List (List ℕ)) → Entries m p f → (k : ℕ) → k < m → amount numbers width (joined m f) (p + k) ≡ amount numbers width (f k) (p + k)
-  unfolding joined
-  entries-amount zero p f h k l = absurd (omega arith)
-  entries-amount (suc m) p f h k l =
-      let rest : Placed numbers width (suc p) (joined m λ k. f (suc k)) = entries-placed m (suc p) (λ k. f (suc k)) (entries-later m p f h) in
-      ap (λ (x : List (List ℕ)). amount numbers width x (p + k)) (joined-cons m f)
-      ∙ go k l rest (λ j g. entries-amount m (suc p) (λ k. f (suc k)) (entries-later m p f h) j g) (h 0 (omega arith))
-    where
-      go : (k : ℕ) → k < suc m → Placed numbers width (suc p) (joined m λ k. f (suc k))
-          → ((j : ℕ) → j < m → amount numbers width (joined m λ k. f (suc k)) (suc p + j) ≡ amount numbers width (f (suc j)) (suc p + j))
-          → (f 0 ≡ []) ⊎ ((r : List ℕ) × (f 0 ≡ r ∷ []) × (placeOf numbers width r ≡ p + 0) × At numbers width (p + 0) r)
-          → amount numbers width (f 0 ++ joined m λ k. f (suc k)) (p + k) ≡ amount numbers width (f k) (p + k)
-      go zero l rest ih (inl e) = rw e (amount-before (joined m λ k. f (suc k)) (suc p) (p + 0) rest (omega arith) ∙ sym (amount-before [] (suc p) (p + 0) tt (omega arith)))
-      go zero l rest ih (inr w) =
-          let (r, e, q, a) = w in
-          rw e (amount-here r (joined m λ k. f (suc k)) (p + 0) q ∙ sym (amount-here r [] (p + 0) q))
-      go (suc k) l rest ih (inl e) = rw e (later k (ih k (omega arith)))
+    -- the rows of a table all of whose pairs are sound
+    module _ (boxes : List ℕ) (numbered : InLimits l numbers)
+        (sound : (i j : ℕ) → i < width → j < width → T (pairSound l (length numbers) width boxes i j)) where
+      -- boxes that stand at a place pass between two trains
+      pair-of : (q x : ℕ) → q < width * width → getD boxes q 0 ≡ suc x
+          → (q / width < length numbers) × (q % width < length numbers) × (q / width ≡ q % width → ⊥) × (suc x ≤ l .boxes)
+      unfolding pairSound
+      pair-of q x h e =
+          let wide : 0 < width = positive width h in
+          let i : ℕ = q / width in
+          let j : ℕ = q % width in
+          let back : i * width + j ≡ q = div-add-mod' q width in
+          let hi : i < width = div-lt-iff-lt-mul wide .1 h in
+          let t = subst (λ k. T (cond (ltb i (length numbers) && ltb j (length numbers) && not (eqb i j)) (leb k (l .boxes)) (eqb k 0))) (ap (λ k. getD boxes k 0) back ∙ e) (sound i j hi (mod-lt q wide)) in
+          go (ltb i (length numbers) && ltb j (length numbers) && not (eqb i j)) refl t
         where
-          later : (k : ℕ) → amount numbers width (joined m λ k. f (suc k)) (suc p + k) ≡ amount numbers width (f (suc k)) (suc p + k)
-              → amount numbers width (joined m λ k. f (suc k)) (p + suc k) ≡ amount numbers width (f (suc k)) (p + suc k)
-          later k h = subst (λ q. amount numbers width (joined m λ k. f (suc k)) q ≡ amount numbers width (f (suc k)) q) (suc-add p k ∙ sym (add-suc p k)) h
-      go (suc k) l rest ih (inr w) =
-          let (r, e, q, a) = w in
-          rw e
-          (amount-there r (joined m λ k. f (suc k)) (p + suc k) (λ z. omega arith)
-          ∙ subst (λ q. amount numbers width (joined m λ k. f (suc k)) q ≡ amount numbers width (f (suc k)) q) (suc-add p k ∙ sym (add-suc p k)) (ih k (omega arith)))
+          positive : (w : ℕ) → q < w * w → 0 < w
+          positive zero g = absurd (omega arith)
+          positive (suc w) g = omega arith
 
-  pub table-back : (boxes : List ℕ) → length boxes ≡ width * width → Entries (width * width) 0 (moveRows numbers width boxes)
-      → stored numbers width (replicate (width * width) 0) (joined (width * width) (moveRows numbers width boxes)) ≡ boxes
-  unfolding moveRows rowAt
-  table-back boxes size h =
-      let f : ℕ → List (List ℕ) = moveRows numbers width boxes in
-      let moves : List (List ℕ) = joined (width * width) f in
-      ext-getD 0 (stored numbers width (replicate (width * width) 0) moves) boxes
-      (length-stored moves (replicate (width * width) 0) ∙ length-replicate {A = ℕ} (width * width) 0 ∙ sym size)
-      (λ q g.
-      let l : q < width * width = omega (arith, g, length-stored moves (replicate (width * width) 0), length-replicate {A = ℕ} (width * width) 0) in
-      table-at moves q (entries-placed (width * width) 0 f h) l
-      ∙ ap (amount numbers width moves) (sym (zero-add q)) ∙ entries-amount (width * width) 0 f h q l ∙ ap (amount numbers width (f q)) (zero-add q)
-      ∙ one q l (getD boxes q 0) refl (h q l))
-    where
-      one : (q : ℕ) → q < width * width → (x : ℕ) → getD boxes q 0 ≡ x
-          → (moveRows numbers width boxes q ≡ []) ⊎ ((r : List ℕ) × (moveRows numbers width boxes q ≡ r ∷ []) × (placeOf numbers width r ≡ 0 + q) × At numbers width (0 + q) r)
-          → amount numbers width (moveRows numbers width boxes q) q ≡ getD boxes q 0
-      one q l zero e h = ap (λ (m : List (List ℕ)). amount numbers width m q) (no-row q (getD boxes q 0) e) ∙ amount-before [] (suc q) q tt (omega arith) ∙ sym e
-      one q l (suc x) e (inl z) = absurd (let d = ap (λ (m : List (List ℕ)). length m) (sym (one-row q (getD boxes q 0) (omega arith)) ∙ z) in omega arith)
-      one q l (suc x) e (inr w) =
-          let (r, z, p, a) = w in
-          let d : field3 (moveRow numbers width q (getD boxes q 0)) ≡ field3 r = ap (λ (m : List (List ℕ)). field3 (getD m 0 [])) (sym (one-row q (getD boxes q 0) (omega arith)) ∙ z) in
-          rw z (amount-here r [] q (p ∙ zero-add q) ∙ sym d)
+          go : (b : Bool) → (ltb (q / width) (length numbers) && ltb (q % width) (length numbers) && not (eqb (q / width) (q % width))) ≡ b
+              → T (cond b (leb (suc x) (l .boxes)) (eqb (suc x) 0))
+              → (q / width < length numbers) × (q % width < length numbers) × (q / width ≡ q % width → ⊥) × (suc x ≤ l .boxes)
+          go true p t =
+              let (a, d) = both-of (ltb (q / width) (length numbers) && ltb (q % width) (length numbers)) (not (eqb (q / width) (q % width))) (of-true p) in
+              let (u, v) = both-of (ltb (q / width) (length numbers)) (ltb (q % width) (length numbers)) a in
+              (ltb→lt _ _ u, ltb→lt _ _ v, λ s. not-of (eqb (q / width) (q % width)) d (of-true (eq-eqb (q / width) (q % width) s)), leb→le (suc x) (l .boxes) t)
+          go false p t = absurd (let z = eqb→eq (suc x) 0 t in omega arith)
+
+      row-at : (q : ℕ) → q < width * width → (x : ℕ) → getD boxes q 0 ≡ x → Row q x (cond (eqb x 0) [] (moveRow numbers width q x ∷ []))
+      unfolding Row moveRanges
+      row-at q h zero e = inl (refl, refl)
+      row-at q h (suc x) e =
+          let (hi, hj, differ, most) = pair-of q x h e in
+          let i : ℕ = q / width in
+          let j : ℕ = q % width in
+          let pi = position-there numbers up i hi in
+          let pj = position-there numbers up j hj in
+          let ni = numbered i hi in
+          let nj = numbered j hj in
+          rw (ne-eqb (suc x) 0 (λ z. omega arith))
+          (inr (
+            moveRow numbers width q (suc x),
+            refl,
+            ap₂ (λ a b. a * width + b) pi pj ∙ div-add-mod' q width,
+            refl,
+            record {
+              fields = refl;
+              limits = is-within (moveRanges l) (moveRow numbers width q (suc x)) (ni, (nj, ((omega arith, most), tt)));
+              trains =
+                  both (isListed numbers (getD numbers i 0) && isListed numbers (getD numbers j 0)) (not (eqb (getD numbers i 0) (getD numbers j 0)))
+                  (both (isListed numbers (getD numbers i 0)) (isListed numbers (getD numbers j 0)) (rw pi (lt→ltb i (length numbers) hi)) (rw pj (lt→ltb j (length numbers) hj)))
+                  (not-T (eqb (getD numbers i 0) (getD numbers j 0)) (λ t. differ (sym pi ∙ ap (position numbers) (eqb→eq (getD numbers i 0) (getD numbers j 0) t) ∙ pj)));
+            },
+          ))
+
+      rows-are : (q : ℕ) → q < width * width → Row q (getD boxes q 0) (moveRows numbers width boxes q)
+      unfolding moveRows
+      rows-are q h = row-at q h (getD boxes q 0) refl
+
+      abbrev moves : List (List ℕ)
+      moves = movesOf width boxes numbers
+
+      moves-in : (r : List ℕ) → In r moves → (getD boxes (place r) 0 ≡ field3 r) × Good l numbers r
+      moves-in r m =
+          let (q, h, n) = joined-in (moveRows numbers width boxes) r (width * width) m in
+          let (e, v, g) = row-in q (getD boxes q 0) (moveRows numbers width boxes q) (rows-are q h) r n in
+          (ap (λ k. getD boxes k 0) e ∙ sym v, g)
+
+      moves-rise : Rise place 0 (width * width) moves
+      unfolding Row
+      moves-rise =
+          rise-joined place (λ i. i) (λ i. omega arith) (moveRows numbers width boxes) (width * width)
+          (λ q h. ⊎-elim (λ w. rw (w .1) tt) (λ w. let (r, e, p, v, g) = w in rw e (omega (arith, p), omega (arith, p), tt)) (rows-are q h))
+
+      table-boxes : Boxes numbers width boxes moves
+      unfolding Row
+      table-boxes = record {
+        last = width * width;
+        rise = moves-rise;
+        made = λ r m. good-made r (moves-in r m .1);
+        there = λ r m. moves-in r m .0;
+        elsewhere = λ q h.
+            ⊎-elim (λ w. inl (w .0))
+            (λ w.
+            let (r, e, p, v, g) = w in
+            inr (r, in-joined (moveRows numbers width boxes) r (width * width) q h (subst (λ (u : List (List ℕ)). In r u) (sym e) (inl refl)), p))
+            (rows-are q h);
+      }
+
+      pub table-fine : FineMoves l numbers (0 ∷ 0 ∷ 0 ∷ []) (movesOf width boxes numbers)
+      table-fine =
+          rise-fine moves (0 ∷ 0 ∷ 0 ∷ []) 0 (width * width) moves-rise (λ r m. moves-in r m .1)
+          (λ r g h. left (ltb 0 (field1 r)) (eqb 0 (field1 r) && ltb 0 (field2 r)) (lt→ltb 0 (field1 r) (good-boxes r g .0)))
+
+      -- the table from its moves
+      pub boxes-back : length boxes ≡ width * width → storedMoves numbers width (replicate (width * width) 0) (movesOf width boxes numbers) ≡ boxes
+      boxes-back long = table-back place place field3 (moveRow numbers width) (width * width) boxes moves long table-boxes
+
+    -- the moves from their table
+    pub moves-back : (moves : List (List ℕ)) → InLimits l numbers
+        → FineMoves l numbers (0 ∷ 0 ∷ 0 ∷ []) moves → movesOf width (storedMoves numbers width (replicate (width * width) 0) moves) numbers ≡ moves
+    moves-back moves numbered f =
+        let table : List ℕ = storedMoves numbers width (replicate (width * width) 0) moves in
+        rows-same place place field3 (moveRow numbers width) (width * width) table (movesOf width table numbers) moves
+        (table-boxes table numbered (pairs-sound moves f)) (fine-boxes moves f)

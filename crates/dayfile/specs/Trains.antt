@@ -17,9 +17,10 @@ use Rattle.fold.specs.Counting.{le-or-lt}
 use Rattle.fold.specs.Listed.{listed, length-listed, listed-at}
 use Rattle.day.specs.AnswerLaws.{AllHold}
 use Rattle.day.specs.Sound.{within, trainRanges, trainRow, numberBefore, trainSound, unused, positionSound}
+use Rattle.day.specs.SoundLaws.{Within, within-is}
 use Rattle.day.specs.declared.Limits.{Limits}
 use Rattle.dayfile.specs.Reading.{field1, field2, field3, trainChecks, numbersOf, padded}
-use Rattle.dayfile.specs.Files.{FineTrains}
+use Rattle.dayfile.specs.Sections.{FineTrains}
 
 -- ---- lists padded with zeros
 
@@ -86,18 +87,23 @@ rising l slots rows f i (suc j) h g =
     rw (number-at rows j, number-at rows (suc j)) (ltb→lt (field1 (getD rows j [])) (field1 (getD rows (suc j) [])) up) in
     ⊎-elim (λ (e : i ≡ j). rw e u) (λ (m : i < j). let r = rising l slots rows f i j m (omega arith) in omega arith) (eq-or-lt-of-le (le-of-suc-le-suc h))
 
+-- numbers that lie in 1 to their limit
+abbrev pub InLimits : Limits → List ℕ → Type 0
+InLimits l numbers = (i : ℕ) → i < length numbers → (1 ≤ getD numbers i 0) × (getD numbers i 0 ≤ l .number)
+
+pub in-limits : (l : Limits) (slots : ℕ) (rows : List (List ℕ)) → FineTrains l slots 0 rows → InLimits l (numbersOf rows)
+unfolding trainRanges
+in-limits l slots rows f i h =
+    let (e, (inside, t)) = trains-at l slots rows 0 f i (omega (arith, length-map rows field1)) in
+    rw (number-at rows i) (first (getD rows i []) e (within-is (trainRanges l slots) (getD rows i []) inside))
+  where
+    first : (r : List ℕ) → length r ≡ 3 → Within (trainRanges l slots) r → (1 ≤ field1 r) × (field1 r ≤ l .number)
+    first [] e w = absurd (omega arith)
+    first (a ∷ r) e w = w .0
+
 -- ---- from rows to the record's lists
 
 module _ (l : Limits) (slots : ℕ) (rows : List (List ℕ)) (m : ℕ) where
-  numbers : List ℕ
-  numbers = map field1 rows ++ replicate m 0
-
-  first : List ℕ
-  first = map field2 rows ++ replicate m 0
-
-  last : List ℕ
-  last = map field3 rows ++ replicate m 0
-
   -- the fields of position i are those of its row, zeros where there is none
   column : (g : List ℕ → ℕ) (i : ℕ) → g [] ≡ 0 → getD (map g rows ++ replicate m 0) i 0 ≡ g (getD rows i [])
   column g i z = padded-at (map g rows) m i ∙ ap (getD (map g rows) i) (sym z) ∙ List·getD-map g rows i []
@@ -131,9 +137,6 @@ module _ (l : Limits) (slots : ℕ) (rows : List (List ℕ)) (m : ℕ) where
 -- ---- from the record's lists to rows
 
 module _ (l : Limits) (n slots : ℕ) (numbers first last : List ℕ) where
-  row : ℕ → List ℕ
-  row = trainRow numbers first last
-
   pub rows-fine : ((i : ℕ) → i < n → T (positionSound l n slots numbers first last i)) → FineTrains l slots 0 (listed n (trainRow numbers first last))
   unfolding positionSound trainSound numberBefore
   rows-fine sound =

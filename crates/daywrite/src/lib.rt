@@ -5,8 +5,9 @@
 // text is put by `day_text`, over columns and a table of any width. Assumes nothing.
 ghost use mathlib.Core.Path.{_≡_};
 ghost use Prim.Native.Nat.{_≤_};
+ghost use lib.Dec.{T};
 ghost use lib.ListN.{length};
-ghost use Rattle.day.specs.Sound.{dayLimits, yard};
+ghost use Rattle.day.specs.Sound.{dayLimits, yard, sound};
 ghost use Rattle.decimal.specs.Place.{Put};
 ghost use Rattle.dayfile.specs.Writing.{dayText};
 ghost use Rattle.dayfile.specs.Calls.{dayWrites, dayLeaves};
@@ -15,16 +16,26 @@ use day::Day;
 use day::Refusal;
 use output::Wrote;
 
-// Puts the text of a day at the front, and gives its length.
+// Puts the text of a sound day at the front, and gives its length.
 fn put_day(day: Day, out: &mut [u8]) -> usize
-    requires { ⌜ (day .trains ≤ 12) × (length (dayText (yard day)) ≤ length (now out)) ⌝ }
-    ensures { λ r. ⌜ Put (now (out .entry)) (now (out .exit)) 0 r (dayText (yard day)) ⌝ }
+    requires { ⌜ T (sound dayLimits (yard day)) × (length (dayText dayLimits (yard day)) ≤ length (now out)) ⌝ }
+    ensures { λ r. ⌜ Put (now (out .entry)) (now (out .exit)) 0 r (dayText dayLimits (yard day)) ⌝ }
 {
     let numbers = day.numbers;
     let first = day.first;
     let last = day.last;
+    let groups = day.groups;
     let boxes = day.boxes;
-    day_text::put_file(out, day::head_of(day), &numbers, &first, &last, 12, &boxes)
+    day_text::put_file(
+        day::day_limits(),
+        out,
+        day::head_of(day),
+        &numbers,
+        &first,
+        &last,
+        &groups,
+        &boxes,
+    )
 }
 
 // Writes a day. The output is lent: its first bytes become the day file, the others stay; a refusal changes none. So the text is put

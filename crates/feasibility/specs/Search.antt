@@ -33,6 +33,7 @@ windowsOnly n tracks slots first last = record {
   numbers = [];
   first = first;
   last = last;
+  groups = [];
   width = 0;
   boxes = [];
 }

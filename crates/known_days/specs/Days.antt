@@ -29,6 +29,7 @@ dayOf n tracks slots revisit split first last moves = record {
   numbers = padded (listed n suc);
   first = padded first;
   last = padded last;
+  groups = replicate 12 0;
   boxes = boxTable moves;
 }
 
@@ -56,5 +57,22 @@ numbered numbers moves = record {
   numbers = padded numbers;
   first = padded (1 ∷ 1 ∷ []);
   last = padded (2 ∷ 2 ∷ []);
+  groups = replicate 12 0;
   boxes = boxTable moves;
+}
+
+-- a day with these groups, 0 for a train in none
+unfoldable pub inGroups : List ℕ → Day → Day
+unfolding padded
+inGroups groups d = record {
+  trains = d .trains;
+  tracks = d .tracks;
+  slots = d .slots;
+  revisit = d .revisit;
+  split = d .split;
+  numbers = d .numbers;
+  first = d .first;
+  last = d .last;
+  groups = padded groups;
+  boxes = d .boxes;
 }

@@ -9,7 +9,7 @@ use Prim.Native.Nat.{ℕ}
 use lib.Dec.{T, eqb, eqb→eq}
 use lib.IntN.{ℤ, pos, negsuc}
 use Rattle.fold.specs.Test.{is-true, is-false, both-of, not-of, sameList, same-list}
-use Rattle.model.specs.Model.{Yard, Outcome, outcome, cost, allowed, precedes, Best, NoRow, FirstOverbooked, boundInside}
+use Rattle.model.specs.Model.{Yard, Outcome, outcome, cost, allowed, precedes, Best, NoRow, overbooked, FirstOverbooked, boundInside}
 use Rattle.model.specs.BestOf.{bestOf, is-best, is-none}
 use Rattle.model.specs.Overbooked.{Interval, firstOverbooked, first-says, SaysFirst}
 use Rattle.day.specs.Answer.{Answer, gives, refuses}
@@ -28,6 +28,7 @@ pub data Line : Type 0 where
   best : Day → List ℕ → Outcome → Line
   later : Day → List ℕ → List ℕ → ℕ → Line
   refused : Day → ℕ → ℕ → ℕ → Line
+  unkept : Day → Line
   accepted : Day → Bool → Line
   plans : Day → ℕ → ℕ → ℕ → Answer Outcome → Line
   compares : (Yard → List ℕ) → Day → List ℕ → Answer Comparison → Line
@@ -43,6 +44,8 @@ Holds (later d r s c) =
     T (allowed (yard d) r) × T (allowed (yard d) s) × (cost (yard d) r ≡ c) × (cost (yard d) s ≡ c) × T (precedes (yard d) r s)
 -- no row is allowed, and the first overbooked interval is a..b with k trains bound inside
 Holds (refused d a b k) = NoRow (yard d) × FirstOverbooked (yard d) a b × (boundInside (yard d) a b ≡ k)
+-- no row is allowed, and no interval is overbooked
+Holds (unkept d) = NoRow (yard d) × ((a b : ℕ) → T (overbooked (yard d) a b) → ⊥)
 -- the record is sound, or not
 Holds (accepted d b) = sound dayLimits (yard d) ≡ b
 -- planning, lent so many words of cost, words of choice and bytes of row, gives this answer
@@ -85,12 +88,17 @@ unfoldable pub isInterval : Option Interval → ℕ → ℕ → Bool
 isInterval none a b = false
 isInterval (some w) a b = eqb (w .first) a && eqb (w .last) b
 
+unfoldable pub noInterval : Option Interval → Bool
+noInterval none = true
+noInterval (some w) = false
+
 unfoldable pub passes : Line → Bool
 passes (values d row a) = sameAnswer sameOutcome (valued dayLimits (yard d) row) a
 passes (best d row o) = isRow (bestOf (yard d)) row && sameOutcome (outcome (yard d) row) o
 passes (later d r s c) =
     allowed (yard d) r && allowed (yard d) s && eqb (cost (yard d) r) c && eqb (cost (yard d) s) c && precedes (yard d) r s
 passes (refused d a b k) = isNone (bestOf (yard d)) && isInterval (firstOverbooked (yard d)) a b && eqb (boundInside (yard d) a b) k
+passes (unkept d) = isNone (bestOf (yard d)) && noInterval (firstOverbooked (yard d))
 passes (plans d costs choices bytes a) = sameAnswer sameOutcome (planned dayLimits (yard d) costs choices bytes) a
 passes (accepted d b) = cond b (sound dayLimits (yard d)) (not (sound dayLimits (yard d)))
 passes (compares procedure d row a) =
@@ -169,6 +177,18 @@ module _ (d : Day) where
       let (q, w) = both-of (isNone (bestOf y)) (isInterval (firstOverbooked y) a b) p in
       (is-none y (no-row (bestOf y) q), interval-holds (firstOverbooked y) a b (first-says y) w, eqb→eq (boundInside y a b) k trains)
 
+  none-over : (o : Option Interval) → SaysFirst (yard d) o → T (noInterval o) → (a b : ℕ) → T (overbooked (yard d) a b) → ⊥
+  unfolding noInterval
+  none-over none s t = s
+  none-over (some w) s t = absurd t
+
+  unkept-holds : T (passes (unkept d)) → Holds (unkept d)
+  unfolding passes
+  unkept-holds t =
+      let y = yard d in
+      let (q, w) = both-of (isNone (bestOf y)) (noInterval (firstOverbooked y)) t in
+      (is-none y (no-row (bestOf y) q), none-over (firstOverbooked y) (first-says y) w)
+
   accepted-holds : (b : Bool) → T (passes (accepted d b)) → Holds (accepted d b)
   unfolding passes
   accepted-holds true t = is-true (sound dayLimits (yard d)) t
@@ -182,6 +202,7 @@ line-holds (best d row o) t =
     (is-best (yard d) row (is-row (bestOf (yard d)) row p), same-outcome (outcome (yard d) row) o q)
 line-holds (later d r s c) t = later-holds d r s c t
 line-holds (refused d a b k) t = refused-holds d a b k t
+line-holds (unkept d) t = unkept-holds d t
 line-holds (accepted d b) t = accepted-holds d b t
 line-holds (plans d costs choices bytes a) t = same-answer sameOutcome same-outcome (planned dayLimits (yard d) costs choices bytes) a t
 line-holds (compares procedure d row a) t =

@@ -1,5 +1,5 @@
--- P1 to P13 of document 01, its edges and the refusals 8, 11, 12 and 13, and days compared with the procedures of document 02's order 1,
--- as one table, and the one theorem that every line holds:
+-- P1 to P13 of document 01, its edges and the refusals 8, 11, 12 and 13, days compared with the procedures of document 02's order 1, and
+-- days with the wagon sets of its order 4, as one table, and the one theorem that every line holds:
 --     every-line : (l : Line) → List·Memᴰ l table → Holds l
 -- What a line says is `Holds` of Lines.antt. The checker computes one test over the whole table; `line-holds` turns a line's test into its
 -- statement. "The best plan" speaks of every row, through the enumeration of the model's Rows.antt, which is proved complete.
@@ -15,21 +15,21 @@ use Rattle.fold.specs.Table.{allPass, all-hold}
 use Rattle.fold.specs.Fold
 use Rattle.fold.specs.Fold.{sum, count, each, lowest}
 use Rattle.sets.specs.Mask.{mask}
-use Rattle.model.specs.Model.{Outcome, cost, fitting, allowed, byKey, precedes, lateSupplier, revisiting, revisits, splitBoxes, splitsTo, splits, weighed, inSlots, inWindow, load, roomy, slotMask, lower, bound, exceeds, overbooked, inTime, outsideBoxes}
+use Rattle.model.specs.Model.{Outcome, cost, fitting, grouped, apart, kept, parted, allowed, byKey, precedes, lateSupplier, revisiting, revisits, splitBoxes, splitsTo, splits, weighed, inSlots, inWindow, load, roomy, slotMask, lower, bound, exceeds, overbooked, inTime, outsideBoxes}
 use Rattle.model.specs.Rows.{allRows}
 use Rattle.model.specs.Order.{pick}
 use Rattle.model.specs.BestOf.{bestOf}
 use Rattle.model.specs.Overbooked.{firstOverbooked, overbookedFrom, overbookedFirst, overbookedLast}
 use Rattle.day.specs.Answer.{Answer, gives, refuses}
-use Rattle.day.specs.Sound.{within, headRanges, trainRanges, shaped, sound, numberBefore, trainSound, unused, positionSound, pairSound, receiverSound}
+use Rattle.day.specs.Sound.{within, headRanges, trainRanges, shaped, sound, numberBefore, trainSound, unused, positionSound, groupSound, pairSound, receiverSound}
 use Rattle.counting.specs.Counting.{figures}
 use Rattle.valuing.specs.Valuing.{valued, strays, overfull}
 use Rattle.planning.specs.Planning.{planned}
 use Rattle.procedures.specs.Procedures.{trackFree, waits, suits, earliest, comeTo, firstCome, waitingSupplier, priority, select, fillTo, servedTo, myopic}
 use Rattle.comparing.specs.Comparing.{Comparison, against}
 use Rattle.baselines.specs.Baselines.{compared}
-use Rattle.known_days.specs.Lines.{Line, values, best, later, refused, accepted, plans, compares, comparesIn, Holds, sameOutcome, sameInt, sameComparison, sameAnswer, isRow, isNone, isInterval, passes, line-holds}
-use Rattle.known_days.specs.Days.{move, dayOf, openDay, paperDay, numbered}
+use Rattle.known_days.specs.Lines.{Line, values, best, later, refused, unkept, accepted, plans, compares, comparesIn, Holds, sameOutcome, sameInt, sameComparison, sameAnswer, isRow, isNone, isInterval, noInterval, passes, line-holds}
+use Rattle.known_days.specs.Days.{move, dayOf, openDay, paperDay, numbered, inGroups}
 
 -- ---- the table
 
@@ -37,7 +37,7 @@ abbrev pub saving : Outcome → ℕ → Answer Comparison
 saving o saved = gives record { outcome = o; saving = pos saved }
 
 unfoldable pub table : List Line
-unfolding dayOf openDay paperDay numbered
+unfolding dayOf openDay paperDay numbered inGroups
 table =
     -- P1 to P3, the source's example
     best (paperDay 1 1 1) (2 ∷ 1 ∷ 2 ∷ 1 ∷ []) (figures 1 7 8)
@@ -124,6 +124,37 @@ table =
     ∷ plans (paperDay 65536 1 1) 0 0 0 (refuses 8 (0 ∷ []))
     ∷ plans (openDay 3 1 2 []) 8 16 3 (refuses 9 (1 ∷ 2 ∷ 3 ∷ []))
     ∷ plans (openDay 3 1 2 []) 7 16 3 (refuses 10 (0 ∷ []))
+    -- wagon sets: of trains that follow each other in the file and of others, with gaps in the numbers; a set of one binds nothing
+    ∷ best (inGroups (1 ∷ 1 ∷ 0 ∷ 0 ∷ []) (paperDay 1 1 1)) (1 ∷ 1 ∷ 2 ∷ 2 ∷ []) (figures 1 10 11)
+    ∷ best (inGroups (1 ∷ 0 ∷ 0 ∷ 1 ∷ []) (paperDay 1 1 1)) (1 ∷ 2 ∷ 2 ∷ 1 ∷ []) (figures 1 15 16)
+    ∷ best (inGroups (3 ∷ 12 ∷ 12 ∷ 3 ∷ []) (paperDay 1 1 1)) (1 ∷ 2 ∷ 2 ∷ 1 ∷ []) (figures 1 15 16)
+    ∷ best (inGroups (5 ∷ 0 ∷ 0 ∷ 0 ∷ []) (paperDay 1 1 1)) (2 ∷ 1 ∷ 2 ∷ 1 ∷ []) (figures 1 7 8)
+    -- a set of more trains than tracks; one whose windows share no slot; one that shares a slot with one track: 16, after 10
+    ∷ unkept (inGroups (1 ∷ 1 ∷ 1 ∷ []) (openDay 3 2 2 []))
+    ∷ unkept (inGroups (1 ∷ 1 ∷ []) (dayOf 2 2 2 1 1 (1 ∷ 2 ∷ []) (1 ∷ 2 ∷ []) []))
+    ∷ unkept (inGroups (1 ∷ 1 ∷ []) (dayOf 2 1 3 1 1 (1 ∷ 2 ∷ []) (2 ∷ 3 ∷ []) []))
+    ∷ plans (inGroups (1 ∷ 1 ∷ 1 ∷ []) (openDay 3 2 2 [])) 8 16 3 (refuses 16 (0 ∷ []))
+    ∷ plans (inGroups (1 ∷ 1 ∷ 1 ∷ []) (openDay 3 2 2 [])) 7 16 3 (refuses 10 (0 ∷ []))
+    -- 9 where a stretch is overbooked, whatever the groups
+    ∷ refused (inGroups (1 ∷ 1 ∷ 1 ∷ []) (openDay 3 1 2 [])) 1 2 3
+    ∷ plans (inGroups (1 ∷ 1 ∷ 1 ∷ []) (openDay 3 1 2 [])) 8 16 3 (refuses 9 (1 ∷ 2 ∷ 3 ∷ []))
+    -- 17 with the lowest parted group, after 11, 12 and 13; a group that is kept is passed over, and trains in none are no group
+    ∷ values (inGroups (7 ∷ 3 ∷ 7 ∷ 3 ∷ []) (paperDay 1 1 1)) (1 ∷ 1 ∷ 2 ∷ 2 ∷ []) (refuses 17 (3 ∷ []))
+    ∷ values (inGroups (7 ∷ 3 ∷ 7 ∷ 3 ∷ []) (paperDay 1 1 1)) (1 ∷ 1 ∷ 2 ∷ []) (refuses 11 (0 ∷ []))
+    ∷ values (inGroups (7 ∷ 3 ∷ 7 ∷ 3 ∷ []) (paperDay 1 1 1)) (1 ∷ 1 ∷ 2 ∷ 3 ∷ []) (refuses 12 (4 ∷ []))
+    ∷ values (inGroups (7 ∷ 3 ∷ 7 ∷ 3 ∷ []) (paperDay 1 1 1)) (1 ∷ 2 ∷ 2 ∷ 2 ∷ []) (refuses 13 (2 ∷ []))
+    ∷ values (inGroups (1 ∷ 1 ∷ 12 ∷ 12 ∷ []) (openDay 4 2 3 [])) (1 ∷ 1 ∷ 2 ∷ 3 ∷ []) (refuses 17 (12 ∷ []))
+    ∷ values (inGroups (0 ∷ 0 ∷ 1 ∷ 1 ∷ []) (openDay 4 2 3 [])) (1 ∷ 2 ∷ 3 ∷ 3 ∷ []) (gives (figures 0 0 0))
+    -- group numbers up to 12, and none where no train is
+    ∷ accepted (inGroups (12 ∷ 0 ∷ []) (openDay 2 1 2 [])) true
+    ∷ accepted (inGroups (13 ∷ 0 ∷ []) (openDay 2 1 2 [])) false
+    ∷ accepted (inGroups (0 ∷ 0 ∷ 1 ∷ []) (openDay 2 1 2 [])) false
+    -- the procedures do not look at groups: 16 before 14, 14 with a position before 14 with 0, and numbers where the row keeps them
+    ∷ compares firstCome (inGroups (1 ∷ 1 ∷ 1 ∷ []) (openDay 3 2 2 [])) (1 ∷ 1 ∷ 2 ∷ []) (refuses 16 (0 ∷ []))
+    ∷ compares firstCome (inGroups (1 ∷ 0 ∷ 1 ∷ []) (dayOf 3 2 2 1 1 (1 ∷ 1 ∷ 1 ∷ []) (2 ∷ 2 ∷ 1 ∷ []) [])) (1 ∷ 1 ∷ 0 ∷ []) (refuses 14 (3 ∷ []))
+    ∷ compares firstCome (inGroups (0 ∷ 1 ∷ 1 ∷ []) (openDay 3 2 2 [])) (1 ∷ 1 ∷ 2 ∷ []) (refuses 14 (0 ∷ []))
+    ∷ compares myopic (inGroups (0 ∷ 1 ∷ 1 ∷ []) (openDay 3 2 2 [])) (1 ∷ 1 ∷ 2 ∷ []) (refuses 14 (0 ∷ []))
+    ∷ compares myopic (inGroups (1 ∷ 1 ∷ 0 ∷ []) (openDay 3 2 2 [])) (1 ∷ 1 ∷ 2 ∷ []) (saving (figures 0 0 0) 0)
     -- comparing lent the same two areas: 8 before 10, 10 before 9, 9 before 14 (the next lines but three)
     ∷ comparesIn 16 32 firstCome (paperDay 1 1 1) (saving (figures 1 10 11) 3)
     ∷ comparesIn 15 32 firstCome (paperDay 1 1 1) (refuses 10 (0 ∷ []))
@@ -158,7 +189,7 @@ table =
 
 -- the one computation
 computed : T (allPass passes table)
-unfolding allPass passes sameOutcome sameInt sameComparison sameAnswer sameList isRow isNone isInterval table sum count each Fold.some lowest mask lateSupplier revisiting revisits splitBoxes splitsTo splits weighed cost inSlots inWindow load roomy fitting allowed slotMask lower precedes bound exceeds overbooked allRows byKey pick bestOf overbookedFrom overbookedFirst overbookedLast firstOverbooked within headRanges trainRanges shaped numberBefore trainSound unused positionSound pairSound receiverSound sound strays overfull valued planned inTime trackFree waits suits earliest comeTo waitingSupplier outsideBoxes priority select fillTo servedTo against compared
+unfolding allPass passes sameOutcome sameInt sameComparison sameAnswer sameList isRow isNone isInterval noInterval table sum count each Fold.some lowest mask lateSupplier revisiting revisits splitBoxes splitsTo splits weighed cost inSlots inWindow load roomy fitting grouped apart kept parted allowed slotMask lower precedes bound exceeds overbooked allRows byKey pick bestOf overbookedFrom overbookedFirst overbookedLast firstOverbooked within headRanges trainRanges shaped numberBefore trainSound unused positionSound groupSound pairSound receiverSound sound strays overfull valued planned inTime trackFree waits suits earliest comeTo waitingSupplier outsideBoxes priority select fillTo servedTo against compared
 computed = tt
 
 pub every-line : (l : Line) → List·Memᴰ l table → Holds l

@@ -17,15 +17,15 @@ use Rattle.fold.specs.Fold.{sum, count, each, lowest}
 use Rattle.fold.specs.Table.{allPass, all-hold}
 use Rattle.fold.specs.Listed.{listed, joined}
 use Rattle.sets.specs.Mask.{mask}
-use Rattle.model.specs.Model.{Yard, lateSupplier, revisiting, revisits, splitBoxes, splitsTo, splits, weighed, cost, inSlots, inTime, inWindow, load, roomy, fitting, allowed, slotMask, lower, byKey, precedes, bound, exceeds, overbooked}
+use Rattle.model.specs.Model.{Yard, lateSupplier, revisiting, revisits, splitBoxes, splitsTo, splits, weighed, cost, inSlots, inTime, inWindow, load, roomy, fitting, grouped, apart, kept, parted, allowed, slotMask, lower, byKey, precedes, bound, exceeds, overbooked}
 use Rattle.model.specs.Rows.{allRows}
 use Rattle.model.specs.Order.{pick}
 use Rattle.model.specs.BestOf.{bestOf}
 use Rattle.model.specs.Overbooked.{firstOverbooked, overbookedFrom, overbookedFirst, overbookedLast}
 use Rattle.day.specs.Answer.{Answer, gives, refuses}
-use Rattle.day.specs.Sound.{dayLimits, yard, within, headRanges, trainRanges, moveRanges, headRow, shaped, sound, numberBefore, trainSound, unused, positionSound, pairSound, receiverSound}
+use Rattle.day.specs.Sound.{dayLimits, yard, within, headRanges, trainRanges, moveRanges, groupRanges, headRow, shaped, sound, numberBefore, trainSound, unused, positionSound, groupSound, pairSound, receiverSound}
 use Rattle.day.specs.declared.Day.{Day}
-use Rattle.known_days.specs.Days.{move, dayOf, openDay, paperDay, numbered}
+use Rattle.known_days.specs.Days.{move, dayOf, openDay, paperDay, numbered, inGroups}
 use Rattle.known_days.specs.Lines.{sameAnswer, same-answer}
 use Rattle.decimal.specs.Decimal.{more, value, digitsWithin}
 use Rattle.lines.specs.Lines.{ascii, byte, names, field, row, rowText, rowsText}
@@ -35,8 +35,8 @@ use Rattle.planfile.specs.PlanText.{valueNames, slotNames, planLines, planWrite
 use Rattle.refusal_text.specs.RefusalText.{lineNames, intervalNames, refusalText}
 use Rattle.answering.specs.Answering.{answerText, answerWrites}
 use Rattle.dayfile.specs.Reading
-use Rattle.dayfile.specs.Reading.{headNames, trainNames, moveNames, position, readTrains, readMoves, readFile, stored, readDay}
-use Rattle.dayfile.specs.Writing.{fileText, moveRows, fileOf, dayText}
+use Rattle.dayfile.specs.Reading.{headNames, trainNames, moveNames, groupNames, movesEnd, position, readTrains, readMoves, readGroups, readFile, stored, readDay}
+use Rattle.dayfile.specs.Writing.{fileText, moveRows, memberRows, groupRows, fileOf, dayText}
 use Rattle.dayfile.specs.Calls.{dayOrZero, dayWrites}
 use Rattle.dayfile.specs.RoundTrip.{read-write}
 use Rattle.dayfile.specs.Size.{dayBytes}
@@ -63,14 +63,15 @@ noDay = record {
   numbers = replicate 12 0;
   first = replicate 12 0;
   last = replicate 12 0;
+  groups = replicate 12 0;
   boxes = replicate 144 0;
 }
 
 abbrev pub Holds : Line → Type 0
 -- the text reads to this day, and the day is written as the same bytes
-Holds (accepted text d) = (readDay dayLimits text ≡ gives (yard d)) × (dayText (yard d) ≡ text)
+Holds (accepted text d) = (readDay dayLimits text ≡ gives (yard d)) × (dayText dayLimits (yard d) ≡ text)
 -- the same of some day
-Holds (acceptedSame text) = (y : Yard) × (readDay dayLimits text ≡ gives y) × (dayText y ≡ text)
+Holds (acceptedSame text) = (y : Yard) × (readDay dayLimits text ≡ gives y) × (dayText dayLimits y ≡ text)
 -- the text is refused with this number and this line, beside a record of zeros
 Holds (refused text k line) = (readDay dayLimits text ≡ refuses k (line ∷ [])) × (dayOrZero dayLimits (readDay dayLimits text) ≡ yard noDay)
 -- for this text yard-plan prints these bytes
@@ -83,12 +84,12 @@ Holds (writesPlan d row bytes a) = planWrites dayLimits (yard d) row bytes ≡ a
 
 -- ---- texts
 
--- the rows of the three sections, each under its names line
+-- the rows of the first three sections, each under its names line
 unfoldable pub file : String → String → String → List ℕ
 unfolding headNames trainNames moveNames
 file head trains moves = headNames ++ ascii head ++ trainNames ++ ascii trains ++ moveNames ++ ascii moves
 
--- P1's file with other moves, from line 9 on; with another row of five, line 2; with other trains, from line 4 on
+-- P1's file with other moves, from line 9 on, and groups behind them; with another row of five, line 2; with other trains, from line 4 on
 unfoldable pub withMoves : String → List ℕ
 unfolding file
 withMoves = file "4 2 2 1 1\n" "1 1 2\n2 1 2\n3 1 2\n4 1 2\n"
@@ -101,19 +102,20 @@ unfoldable pub withTrains : String → List ℕ
 unfolding file
 withTrains trains = file "4 2 2 1 1\n" trains "1 4 1\n3 1 3\n3 4 5\n4 2 6\n4 3 1\n"
 
--- the longest file: 12 trains with the numbers 99988 to 99999, a move for each pair, every value of the most digits
+-- the longest file: 12 trains with the numbers 99988 to 99999, a move for each pair, all in a group, every value of the most digits
 unfoldable pub fullFile : List ℕ
-unfolding headNames trainNames moveNames joined digitsWithin
+unfolding headNames trainNames moveNames groupNames joined digitsWithin
 fullFile =
     let number : ℕ → List ℕ = λ i. digitsWithin 4 (99988 + i) in
     headNames ++ ascii "12 12 8 65535 65535\n"
     ++ trainNames ++ joined 12 (λ i. number i ++ ascii " 8 8\n")
     ++ moveNames ++ joined 12 (λ i. joined 12 λ j. cond (eqb i j) [] (number i ++ ascii " " ++ number j ++ ascii " 255\n"))
+    ++ groupNames ++ joined 12 (λ i. ascii "12 " ++ number i ++ ascii "\n")
 
 -- ---- the table
 
 unfoldable pub table : List Line
-unfolding file withMoves withHead withTrains fullFile dayOf openDay paperDay numbered
+unfolding file withMoves withHead withTrains fullFile dayOf openDay paperDay numbered inGroups
 table =
     -- P1
     accepted (ascii "trains tracks slots revisit split\n4 2 2 1 1\ntrain first last\n1 1 2\n2 1 2\n3 1 2\n4 1 2\nto from boxes\n1 4 1\n3 1 3\n3 4 5\n4 2 6\n4 3 1\n") (paperDay 1 1 1)
@@ -235,11 +237,48 @@ table =
     ∷ refused (withMoves "5 5 1\n") 6 9
     -- the longest file, and one row more
     ∷ acceptedSame fullFile
-    ∷ refused (fullFile ++ ascii "99999 99998 255\n") 7 149
+    ∷ refused (fullFile ++ ascii "12 99999\n") 15 162
+    -- the fourth section: after the moves and after none, group numbers with gaps, trains in none, numbers compared as numbers
+    ∷ accepted (withMoves "1 4 1\ngroup train\n1 1\n1 3\n2 2\n") (inGroups (1 ∷ 2 ∷ 1 ∷ []) (openDay 4 2 2 (move 1 4 1 ∷ [])))
+    ∷ accepted (withMoves "group train\n5 1\n12 2\n12 4\n") (inGroups (5 ∷ 12 ∷ 0 ∷ 12 ∷ []) (openDay 4 2 2 []))
+    ∷ accepted (file "2 1 2 1 1\n" "9 1 2\n10000 1 2\n" "group train\n3 9\n3 10000\n") (inGroups (3 ∷ 3 ∷ []) (numbered (9 ∷ 10000 ∷ []) []))
+    -- it needs a row: the absent line is named; its names line is exact, stands after the moves and once, and only its rows follow
+    ∷ refused (withMoves "1 4 1\ngroup train\n") 2 11
+    ∷ refused (withMoves "group train\n") 2 10
+    ∷ refused (withMoves "1 4 1\ngroup train") 2 10
+    ∷ refused (withMoves "1 4 1\ngroup trains\n1 1\n") 2 10
+    ∷ refused (withMoves "group train \n1 1\n") 2 9
+    ∷ refused (withMoves "group train\r\n1 1\n") 2 9
+    ∷ refused (ascii "trains tracks slots revisit split\n1 2 2 1 1\ntrain first last\n1 1 2\ngroup train\n1 1\nto from boxes\n") 1 5
+    ∷ refused (withMoves "group train\n1 1\ngroup train\n1 2\n") 2 11
+    ∷ refused (withMoves "group train\n1 1\n1 4 1\n") 2 11
+    ∷ refused (withMoves "group train\n1 1\n\n") 2 11
+    ∷ refused (withMoves "group train\n1 1\n1 2") 2 11
+    ∷ refused (withMoves "group train\n1 1 1\n") 2 10
+    ∷ refused (withMoves "group train\n1\n") 2 10
+    ∷ refused (withMoves "1 4\ngroup train\n1 1\n") 2 9
+    -- groups 1 and 12, 0 and 13; the form before the limits, these before 15; of two lines the first
+    ∷ refused (withMoves "group train\n0 1\n") 3 10
+    ∷ refused (withMoves "group train\n13 1\n") 3 10
+    ∷ refused (withMoves "group train\n1 0\n") 3 10
+    ∷ refused (withMoves "group train\n13 x\n") 2 10
+    ∷ refused (withMoves "group train\n13 5\n") 3 10
+    ∷ refused (withMoves "group train\n2 1\n0 1\n") 3 11
+    ∷ refused (withMoves "group train\n1 5\n0 1\n") 15 10
+    -- 15: a train not listed, the same pair twice, a train before the one before, a group before the one before, a train in two groups
+    ∷ refused (withMoves "group train\n1 5\n") 15 10
+    ∷ refused (withMoves "group train\n1 1\n1 1\n") 15 11
+    ∷ refused (withMoves "group train\n1 3\n1 1\n") 15 11
+    ∷ refused (withMoves "group train\n2 1\n1 2\n") 15 11
+    ∷ refused (withMoves "group train\n1 1\n1 2\n2 1\n") 15 12
     -- what is printed: P1's plan file as 01 has it, the two lines of 9 for P9, the two lines of a text that is no day file
     ∷ prints (withHead "4 2 2 1 1\n") (ascii "revisits splits cost\n1 7 8\ntrain slot\n1 2\n2 1\n3 2\n4 1\n")
     ∷ prints (file "3 2 2 1 1\n" "1 1 1\n2 1 1\n3 1 1\n" "") (ascii "refusal first last trains\n9 1 1 3\n")
     ∷ prints (withTrains "1 01 2\n2 1 2\n3 1 2\n4 1 2\n") (ascii "refusal line\n2 4\n")
+    -- wagon sets printed: P1 with trains 1 and 2 in one, a set of more trains than tracks, a row of a train not listed
+    ∷ prints (withMoves "1 4 1\n3 1 3\n3 4 5\n4 2 6\n4 3 1\ngroup train\n1 1\n1 2\n") (ascii "revisits splits cost\n1 10 11\ntrain slot\n1 1\n2 1\n3 2\n4 2\n")
+    ∷ prints (withMoves "group train\n1 1\n1 2\n1 4\n") (ascii "refusal line\n16 0\n")
+    ∷ prints (withMoves "group train\n1 5\n") (ascii "refusal line\n15 10\n")
     -- the answer in an output that is just long enough, and one byte short
     ∷ answers (withHead "4 2 2 1 1\n") 54 (gives 54)
     ∷ answers (withHead "4 2 2 1 1\n") 53 (refuses 10 (0 ∷ []))
@@ -247,13 +286,17 @@ table =
     ∷ writesDay (paperDay 1 1 1) 129 (gives 129)
     ∷ writesDay (paperDay 1 1 1) 128 (refuses 10 (0 ∷ []))
     ∷ writesDay (paperDay 65536 1 1) 0 (refuses 8 (0 ∷ []))
-    -- the same of a plan; 8 before 11 before 12 before 13 before 10
+    ∷ writesDay (inGroups (1 ∷ 0 ∷ 1 ∷ []) (paperDay 1 1 1)) 149 (gives 149)
+    ∷ writesDay (inGroups (1 ∷ 0 ∷ 1 ∷ []) (paperDay 1 1 1)) 148 (refuses 10 (0 ∷ []))
+    -- the same of a plan; 8 before 11 before 12 before 13 before 17 before 10
     ∷ writesPlan (paperDay 1 1 1) (2 ∷ 1 ∷ 2 ∷ 1 ∷ []) 54 (gives 54)
     ∷ writesPlan (paperDay 1 1 1) (2 ∷ 1 ∷ 2 ∷ 1 ∷ []) 53 (refuses 10 (0 ∷ []))
     ∷ writesPlan (paperDay 65536 1 1) [] 0 (refuses 8 (0 ∷ []))
     ∷ writesPlan (paperDay 1 1 1) (0 ∷ 0 ∷ 0 ∷ []) 0 (refuses 11 (0 ∷ []))
     ∷ writesPlan (paperDay 1 1 2) (1 ∷ 1 ∷ 1 ∷ 1 ∷ []) 0 (refuses 12 (4 ∷ []))
     ∷ writesPlan (paperDay 1 1 1) (1 ∷ 2 ∷ 2 ∷ 2 ∷ []) 0 (refuses 13 (2 ∷ []))
+    ∷ writesPlan (inGroups (7 ∷ 3 ∷ 7 ∷ 3 ∷ []) (paperDay 1 1 1)) (1 ∷ 2 ∷ 2 ∷ 2 ∷ []) 0 (refuses 13 (2 ∷ []))
+    ∷ writesPlan (inGroups (7 ∷ 3 ∷ 7 ∷ 3 ∷ []) (paperDay 1 1 1)) (1 ∷ 1 ∷ 2 ∷ 2 ∷ []) 0 (refuses 17 (3 ∷ []))
     ∷ []
 
 -- ---- the test of a line
@@ -261,7 +304,7 @@ table =
 sameYard : Yard → Yard → Bool
 sameYard y z =
     sameList (headRow y) (headRow z) && sameList (y .numbers) (z .numbers) && sameList (y .first) (z .first) && sameList (y .last) (z .last)
-    && eqb (y .width) (z .width) && sameList (y .boxes) (z .boxes)
+    && sameList (y .groups) (z .groups) && eqb (y .width) (z .width) && sameList (y .boxes) (z .boxes)
 
 isGiven : Answer Yard → Bool
 isGiven (gives y) = true
@@ -278,7 +321,7 @@ passes (writesPlan d row bytes a) = sameAnswer eqb (planWrites dayLimits (yard d
 
 -- the one computation
 computed : T (allPass passes table)
-unfolding allPass passes sameYard isGiven sameAnswer sameList table readDay readFile readTrains readMoves headNames trainNames moveNames position stored Reading.dayOf byte names field row more value within headRanges trainRanges moveRanges lowest writes dayText fileOf fileText moveRows listed joined rowText rowsText digitsWithin planLines valueNames slotNames sound shaped positionSound trainSound numberBefore unused receiverSound pairSound each Fold.some sum count lateSupplier revisiting revisits splitBoxes splitsTo splits weighed inTime inWindow load roomy strays overfull answerText refusalText lineNames intervalNames cost inSlots fitting allowed mask slotMask lower precedes bound exceeds overbooked allRows byKey pick bestOf overbookedFrom overbookedFirst overbookedLast firstOverbooked
+unfolding allPass passes sameYard isGiven sameAnswer sameList table readDay readFile readTrains readMoves headNames trainNames moveNames groupNames movesEnd readGroups position stored Reading.dayOf byte names field row more value within headRanges trainRanges moveRanges groupRanges lowest writes dayText fileOf fileText moveRows memberRows groupRows listed joined rowText rowsText digitsWithin planLines valueNames slotNames sound shaped positionSound groupSound trainSound numberBefore unused receiverSound pairSound each Fold.some sum count lateSupplier revisiting revisits splitBoxes splitsTo splits weighed inTime inWindow load roomy strays overfull answerText refusalText lineNames intervalNames cost inSlots fitting grouped apart kept parted allowed mask slotMask lower precedes bound exceeds overbooked allRows byKey pick bestOf overbookedFrom overbookedFirst overbookedLast firstOverbooked
 computed = tt
 
 -- the bound of `accepted-size` (the day file's Size.antt) is reached
@@ -296,8 +339,10 @@ same-yard y z t =
     let e = sameList (y .first) (z .first) in
     let s = sameList (y .last) (z .last) in
     let w = eqb (y .width) (z .width) in
-    let (a, boxes) = both-of (h && n && e && s && w) (sameList (y .boxes) (z .boxes)) t in
-    let (b, width) = both-of (h && n && e && s) w a in
+    let g = sameList (y .groups) (z .groups) in
+    let (a, boxes) = both-of (h && n && e && s && g && w) (sameList (y .boxes) (z .boxes)) t in
+    let (m, width) = both-of (h && n && e && s && g) w a in
+    let (b, groups) = both-of (h && n && e && s) g m in
     let (c, last) = both-of (h && n && e) s b in
     let (d, first) = both-of (h && n) e c in
     let (head, numbers) = both-of h n d in
@@ -305,6 +350,7 @@ same-yard y z t =
     let ns = same-list (y .numbers) (z .numbers) numbers in
     let es = same-list (y .first) (z .first) first in
     let ss = same-list (y .last) (z .last) last in
+    let gs = same-list (y .groups) (z .groups) groups in
     let ws = eqb→eq (y .width) (z .width) width in
     let bs = same-list (y .boxes) (z .boxes) boxes in
     λ i. record {
@@ -316,6 +362,7 @@ same-yard y z t =
       numbers = ns i;
       first = es i;
       last = ss i;
+      groups = gs i;
       width = ws i;
       boxes = bs i;
     }

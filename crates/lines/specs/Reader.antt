@@ -9,7 +9,7 @@ use Rattle.day.specs.Answer.{number, carried}
 use Rattle.decimal.specs.Parsed.{Parsed, fail, got}
 use Rattle.lines.specs.Lines.{names, row}
 use Rattle.lines.specs.declared.Due.{Due}
-use Rattle.lines.specs.declared.Due.the-variants.{NamesLine, RowOfThree, RowOfFive, RowOrEnd}
+use Rattle.lines.specs.declared.Due.the-variants.{NamesLine, RowOfThree, RowOfFive, RowOrEnd, RowNamesOrEnd, PairOrEnd}
 use Rattle.lines.specs.declared.Line.{Line}
 use Rattle.lines.specs.declared.Line.the-variants.{Names, Row, End, Refused}
 
@@ -28,13 +28,24 @@ abbrev pub rowFound : ℕ → Parsed (List ℕ) → Found
 rowFound line fail = aRefusal 2 (line ∷ [])
 rowFound line (got values r) = aRow values r
 
--- word is the names line that is due
+-- the end of the text, else what is found otherwise
+abbrev pub endOr : List ℕ → Found → Found
+endOr [] f = theEnd
+endOr (c ∷ s) f = f
+
+-- a names line where there is one, else what is found otherwise
+abbrev pub namesOr : Parsed (Unit {0}) → Found → Found
+namesOr fail f = f
+namesOr (got u r) f = aNamesLine r
+
+-- word is the names line that is due, or that may end the rows
 abbrev pub found : Due → List ℕ → ℕ → List ℕ → Found
 found NamesLine word line s = namesFound line (names word s)
 found RowOfThree word line s = rowFound line (row 2 s)
 found RowOfFive word line s = rowFound line (row 4 s)
-found RowOrEnd word line [] = theEnd
-found RowOrEnd word line (c ∷ s) = rowFound line (row 2 (c ∷ s))
+found RowOrEnd word line s = endOr s (rowFound line (row 2 s))
+found RowNamesOrEnd word line s = endOr s (namesOr (names word s) (rowFound line (row 2 s)))
+found PairOrEnd word line s = endOr s (rowFound line (row 1 s))
 
 -- ---- the code's answer for what is found in the text t; a row's fields that it does not have are 0
 

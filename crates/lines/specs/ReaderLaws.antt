@@ -7,9 +7,8 @@ use lib.ListN.{length, getD, drop}
 use borrow.Author.Tests.{eq-eqb, ne-eqb}
 use Rattle.decimal.specs.Parsed.{fail, got, andThen}
 use Rattle.decimal.specs.PlaceLaws.{at-end, here}
-use Rattle.lines.specs.Lines.{byte, names, row}
-use Rattle.lines.specs.Reader.{rowFound, found}
-use Rattle.lines.specs.declared.Due.the-variants.{RowOrEnd}
+use Rattle.lines.specs.Lines.{byte, names}
+use Rattle.lines.specs.Reader.{Found, endOr}
 
 -- ---- the byte at a place
 
@@ -36,7 +35,7 @@ pub names-next : (word : List ℕ) (i : ℕ) (s : List ℕ) → i < length word 
 unfolding names
 names-next word i s h = rw (here word i h)
 
--- ---- where the text goes on a row is due
+-- ---- where the text goes on its line decides
 
-pub row-due : (word : List ℕ) (line : ℕ) (t : List ℕ) (p : ℕ) → p < length t → found RowOrEnd word line (drop p t) ≡ rowFound line (row 2 (drop p t))
-row-due word line t p h = rw (here t p h)
+pub goes-on : (t : List ℕ) (p : ℕ) (f : Found) → p < length t → endOr (drop p t) f ≡ f
+goes-on t p f h = rw (here t p h)

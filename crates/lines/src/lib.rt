@@ -6,16 +6,19 @@ ghost use Prim.Native.Nat.{_≤_};
 ghost use lib.ListN.{length, drop};
 ghost use Rattle.decimal.specs.Place.{Answers as Read};
 ghost use Rattle.lines.specs.Lines.{names, field, row};
-ghost use Rattle.lines.specs.Reader.{namesFound, rowFound, found, Answers};
+ghost use Rattle.lines.specs.Reader.{namesFound, rowFound, namesOr, found, Answers};
 use day::Refusal;
 use decimal::Field;
 
-// What the caller is due to find: a names line, a row of three or of five values, or a row of three or the end.
+// What the caller is due to find: a names line, a row of three or of five values, or where rows may end, a row of three or the end, the
+// same or a names line, a row of two or the end.
 pub enum Due {
     NamesLine,
     RowOfThree,
     RowOfFive,
     RowOrEnd,
+    RowNamesOrEnd,
+    PairOrEnd,
 }
 
 // What was found: the kind of the line, its fields and the place after it, or the refusal with its line.
@@ -83,6 +86,26 @@ fn read_field(text: &[u8], at: usize, end: u8) -> Field
     }
 }
 
+// Reads a row of two values.
+fn read_two(text: &[u8], at: usize, line: usize) -> Line
+    ensures { λ r. ⌜ Answers (now (text .entry)) (rowFound line (row 1 (drop at (now (text .entry))))) r ⌝ }
+{
+    let Field::Is { value: a, next: p } = read_field(text, at, 32) else {
+        return Line::Refused(Refusal::RowForm(line));
+    };
+    let Field::Is { value: b, next } = read_field(text, p, 10) else {
+        return Line::Refused(Refusal::RowForm(line));
+    };
+    Line::Row {
+        a,
+        b,
+        c: 0,
+        d: 0,
+        e: 0,
+        next,
+    }
+}
+
 // Reads a row of three values.
 fn read_three(text: &[u8], at: usize, line: usize) -> Line
     ensures { λ r. ⌜ Answers (now (text .entry)) (rowFound line (row 2 (drop at (now (text .entry))))) r ⌝ }
@@ -135,7 +158,18 @@ fn read_five(text: &[u8], at: usize, line: usize) -> Line
     }
 }
 
-// Reads the line at a place. `word` is the names line that is due, `line` the number of the line.
+// Reads a names line, and where there is none a row of three values: a names line that is refused is not the one that ends the rows.
+fn read_names_or_three(text: &[u8], at: usize, line: usize, word: &[u8]) -> Line
+    ensures { λ r. ⌜ Answers (now (text .entry)) (namesOr (names (now (word .entry)) (drop at (now (text .entry)))) (rowFound line (row 2 (drop at (now (text .entry)))))) r ⌝ }
+{
+    let names = read_names(text, at, line, word);
+    let Line::Names { next: _ } = names else {
+        return read_three(text, at, line);
+    };
+    names
+}
+
+// Reads the line at a place. `word` is the names line that is due or that may end the rows, `line` the number of the line.
 pub fn read_line(text: &[u8], at: usize, line: usize, due: Due, word: &[u8]) -> Line
     ensures { λ r. ⌜ Answers (now (text .entry)) (found due (now (word .entry)) line (drop at (now (text .entry)))) r ⌝ }
 {
@@ -148,6 +182,20 @@ pub fn read_line(text: &[u8], at: usize, line: usize, due: Due, word: &[u8]) -> 
                 Line::End
             } else {
                 read_three(text, at, line)
+            }
+        }
+        Due::RowNamesOrEnd => {
+            if text.len() <= at {
+                Line::End
+            } else {
+                read_names_or_three(text, at, line, word)
+            }
+        }
+        Due::PairOrEnd => {
+            if text.len() <= at {
+                Line::End
+            } else {
+                read_two(text, at, line)
             }
         }
     }

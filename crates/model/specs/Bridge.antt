@@ -2,6 +2,8 @@
 --     feasible-row     each feasible point gives a fitting row, with the same slots, that costs at most the objective
 --     row-feasible     each fitting row, with the least y and z, is a feasible point whose objective is the row's cost
 --     least-y, least-z for a fitting row, (4) holds exactly where y_i is at least ours, (5) exactly where z_ij is at least ours
+-- With order 4's equation they belong to the allowed rows:
+--     feasible-allowed, allowed-feasible   the same two of allowed rows
 --     best-optimal     so the best plan's cost is the least objective of the program
 -- Assumes nothing.
 use mathlib.Core.Path.{_≡_, refl, sym, ap, _∙_}
@@ -18,9 +20,10 @@ use Rattle.fold.specs.Fold.{bit, sum, count, some-at, some-of}
 use Rattle.fold.specs.Sums.{sum-ext, sum-le, sum-only, sum-one}
 use Rattle.fold.specs.Listed.{listed, length-listed, listed-at}
 use Rattle.fold.specs.Counting.{same-or, le-or-lt, bit-le}
-use Rattle.model.specs.Model.{Yard, received, slotOf, lateSupplier, revisiting, revisits, splitBoxes, splitsTo, splits, weighed, cost, load, fitting, Best}
-use Rattle.model.specs.Program.{bigM, slotIn, distance, Supplies, Feasible, objective, chosen, leastY, leastZ}
-use Rattle.model.specs.Rows.{Fitting, fitting-is, is-fitting, fits-allowed}
+use Rattle.model.specs.Model.{Yard, received, slotOf, lateSupplier, revisiting, revisits, splitBoxes, splitsTo, splits, weighed, cost, load, fitting, kept, allowed, Best}
+use Rattle.model.specs.Program.{bigM, slotIn, distance, Supplies, Feasible, FeasibleInGroups, objective, chosen, leastY, leastZ}
+use Rattle.model.specs.Rows.{Fitting, fitting-is, is-fitting, allowed-fits, allowed-keeps, fits-allowed}
+use Rattle.model.specs.Groups.{kept-of, kept-by}
 
 -- ---- numbers and tests
 
@@ -217,9 +220,37 @@ pub feasible-row : (y : Yard) (x : ℕ → ℕ → ℕ) (v : ℕ → ℕ) (z : �
     × (cost y row ≤ objective y v z)
 feasible-row y x v z f = (made y x, made-fits y x v z f, λ i t h. made-given y x v z f i h .2 t, made-cost y x v z f)
 
+-- ---- with wagon sets
+
+-- equal x, slot by slot, are equal slots
+made-keeps : (y : Yard) (x : ℕ → ℕ → ℕ) (v : ℕ → ℕ) (z : ℕ → ℕ → ℕ) → FeasibleInGroups y x v z → T (kept (y .trains) (y .groups) (made y x))
+unfolding slotIn
+made-keeps y x v z f =
+    kept-by (y .trains) (y .groups) (made y x)
+    (λ i j h l g.
+    sym (made-slot y x i h)
+    ∙ sum-ext (y .slots) (λ t. x i (suc t) * suc t) (λ t. x j (suc t) * suc t) (λ t b. ap (λ k. k * suc t) (f .order4 i j t h l g b))
+    ∙ made-slot y x j l)
+
+-- a feasible point gives an allowed row with the same slots that costs at most the objective
+pub feasible-allowed : (y : Yard) (x : ℕ → ℕ → ℕ) (v : ℕ → ℕ) (z : ℕ → ℕ → ℕ) → FeasibleInGroups y x v z
+    → (row : List ℕ) × T (allowed y row)
+    × ((i t : ℕ) → i < y .trains → t < y .slots → x i (suc t) ≡ chosen row i (suc t))
+    × (cost y row ≤ objective y v z)
+feasible-allowed y x v z f =
+    let p = f .published in
+    (made y x, fits-allowed y (made y x) (made-fits y x v z p) (made-keeps y x v z f), λ i t h. made-given y x v z p i h .2 t, made-cost y x v z p)
+
+-- an allowed row with the least y and z is feasible (and `row-objective`: the objective is its cost)
+pub allowed-feasible : (y : Yard) (row : List ℕ) → T (allowed y row) → FeasibleInGroups y (chosen row) (leastY y row) (leastZ row)
+allowed-feasible y row ok = record {
+  published = row-feasible y row (allowed-fits y row ok);
+  order4 = λ i j t h l g b. ap (λ s. bit (eqb s (suc t))) (kept-of (y .trains) (y .groups) row (allowed-keeps y row ok) i j h l g);
+}
+
 -- no feasible point has a smaller objective than the best plan's cost
-pub best-optimal : (y : Yard) (row : List ℕ) → Best y row → (x : ℕ → ℕ → ℕ) (v : ℕ → ℕ) (z : ℕ → ℕ → ℕ) → Feasible y x v z
+pub best-optimal : (y : Yard) (row : List ℕ) → Best y row → (x : ℕ → ℕ → ℕ) (v : ℕ → ℕ) (z : ℕ → ℕ → ℕ) → FeasibleInGroups y x v z
     → cost y row ≤ objective y v z
 best-optimal y row b x v z f =
-    let (other, ok, same, cheap) = feasible-row y x v z f in
-    le-trans (b .least other (fits-allowed y other ok)) cheap
+    let (other, ok, same, cheap) = feasible-allowed y x v z f in
+    le-trans (b .least other ok) cheap

@@ -1,5 +1,6 @@
 pub mod Model
 pub mod Rows
+pub mod Groups
 pub mod Order
 pub mod BestOf
 pub mod Overbooked

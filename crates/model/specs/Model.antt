@@ -4,7 +4,7 @@
 -- Position k of the papers is the index k - 1 here; slots count from 1. A row is the list of the positions' slots.
 -- Assumes nothing.
 use mathlib.Core.Path.{_≡_}
-use mathlib.Core.Bool.{Bool, cond, _&&_, _||_}
+use mathlib.Core.Bool.{Bool, not, cond, _&&_, _||_}
 use mathlib.Core.List.{List}
 use Prim.Native.Nat.{ℕ, suc, _+_, _-_, _*_, _≤_}
 use lib.Dec.{T, ltb, leb, eqb}
@@ -21,10 +21,11 @@ pub record Yard : Type 0 where
   pub slots : ℕ
   pub revisit : ℕ
   pub split : ℕ
-  -- by position: train numbers, first slots e, last slots l
+  -- by position: train numbers, first slots e, last slots l, and (order 4 of 02) the group, 0 for a train in none
   pub numbers : List ℕ
   pub first : List ℕ
   pub last : List ℕ
+  pub groups : List ℕ
   -- A, row after row, each `width` long
   pub width : ℕ
   pub boxes : List ℕ
@@ -46,6 +47,10 @@ lastSlot y i = getD (y .last) i 0
 
 abbrev pub slotOf : List ℕ → ℕ → ℕ
 slotOf row i = getD row i 0
+
+-- the group of position i
+abbrev pub groupOf : List ℕ → ℕ → ℕ
+groupOf groups i = getD groups i 0
 
 -- ---- the two counts, of n trains with boxes a: equation (1)'s sums at the least y and z that (4) and (5) allow
 
@@ -130,9 +135,25 @@ fitting y row =
     && each (y .trains) (inWindow (y .first) (y .last) row)
     && each (y .slots) λ t. roomy (y .trains) (y .tracks) row (suc t)
 
--- the rows that planning chooses from
+-- positions i and j are members of one group
+unfoldable pub grouped : List ℕ → ℕ → ℕ → Bool
+grouped groups i j = ltb 0 (groupOf groups i) && eqb (groupOf groups i) (groupOf groups j)
+
+-- two members of one group have different slots
+unfoldable pub apart : List ℕ → List ℕ → ℕ → ℕ → Bool
+apart groups row i j = grouped groups i j && not (eqb (slotOf row i) (slotOf row j))
+
+-- order 4 of 02: all members of a group share one slot
+unfoldable pub kept : ℕ → List ℕ → List ℕ → Bool
+kept n groups row = each n λ i. each n λ j. not (apart groups row i j)
+
+-- group g is parted: two of its members have different slots
+unfoldable pub parted : ℕ → List ℕ → List ℕ → ℕ → Bool
+parted n groups row g = some n λ i. eqb (groupOf groups i) g && some n (apart groups row i)
+
+-- the rows that planning chooses from: those that fit and keep the groups
 unfoldable pub allowed : Yard → List ℕ → Bool
-allowed y row = fitting y row
+allowed y row = fitting y row && kept (y .trains) (y .groups) row
 
 -- ---- the order of rows of equal cost
 

@@ -1,13 +1,14 @@
--- The published program itself: the integer program TYSP of source 000, objective (1) under (2) to (6), with the windows of (12).
+-- The published program itself: the integer program TYSP of source 000, objective (1) under (2) to (6), with the windows of (12). Order 4
+-- of document 02 adds an equation of its own.
 -- Variables as in Table 1: x_it, y_i (here v, since y is the day) and z_ij. Bridge.antt joins it to Model.antt.
 -- Assumes nothing.
 use mathlib.Core.Path.{_≡_}
 use mathlib.Core.Bool.{not, cond}
 use mathlib.Core.List.{List}
 use Prim.Native.Nat.{ℕ, suc, _+_, _-_, _*_, _≤_, _<_}
-use lib.Dec.{eqb}
+use lib.Dec.{T, eqb}
 use Rattle.fold.specs.Fold.{bit, sum}
-use Rattle.model.specs.Model.{Yard, received, firstSlot, lastSlot, slotOf, supplies, revisiting}
+use Rattle.model.specs.Model.{Yard, received, firstSlot, lastSlot, slotOf, supplies, revisiting, grouped}
 
 -- ---- the program
 
@@ -36,6 +37,11 @@ pub record Feasible (y : Yard) (x : ℕ → ℕ → ℕ) (v : ℕ → ℕ) (z : 
   pub eq6y : (i : ℕ) → i < y .trains → v i ≤ 1
   pub eq6z : (i j : ℕ) → i < y .trains → Supplies y i j → z i j ≤ 1
   pub eq12 : (i : ℕ) → i < y .trains → (firstSlot y i ≤ slotIn (y .slots) x i) × (slotIn (y .slots) x i ≤ lastSlot y i)
+
+-- with wagon sets. Order 4, which is not the source's: members of one group have the same x, slot by slot
+pub record FeasibleInGroups (y : Yard) (x : ℕ → ℕ → ℕ) (v : ℕ → ℕ) (z : ℕ → ℕ → ℕ) : Type 0 where
+  pub published : Feasible y x v z
+  pub order4 : (i j t : ℕ) → i < y .trains → j < y .trains → T (grouped (y .groups) i j) → t < y .slots → x i (suc t) ≡ x j (suc t)
 
 -- (1), with the inner sum over j in L_i
 unfoldable pub objective : Yard → (ℕ → ℕ) → (ℕ → ℕ → ℕ) → ℕ

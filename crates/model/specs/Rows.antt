@@ -12,7 +12,7 @@ use lib.ListN.{length}
 use borrow.Author.Tests.{eq-eqb}
 use Rattle.fold.specs.Test.{of-true, both, both-of}
 use Rattle.fold.specs.Fold.{each, each-at, each-i}
-use Rattle.model.specs.Model.{Yard, firstSlot, lastSlot, slotOf, inSlots, inTime, inWindow, load, roomy, fitting, allowed}
+use Rattle.model.specs.Model.{Yard, firstSlot, lastSlot, slotOf, inSlots, inTime, inWindow, load, roomy, fitting, kept, allowed}
 
 -- ---- what the test of a fitting row says
 
@@ -74,16 +74,19 @@ module _ (y : Yard) (row : List ℕ) where
       (each-i (y .trains) (inWindow (y .first) (y .last) row) (λ i h. le-both (firstSlot y i) (slotOf row i) (slotOf row i) (lastSlot y i) (a .windowed i h)))
       (each-i (y .slots) (λ t. roomy (y .trains) (y .tracks) row (suc t)) (λ t h. le→leb (load (y .trains) row (suc t)) (y .tracks) (a .room t h)))
 
-  -- ---- allowed rows are fitting rows. That the other way round holds too is used where a further condition of `allowed` will have its place:
-  -- by nothing else.
+  -- ---- allowed rows: those that fit and keep the groups. A further condition of `allowed` has its place in these.
 
   pub allowed-fits : T (allowed y row) → T (fitting y row)
   unfolding allowed
-  allowed-fits t = t
+  allowed-fits t = both-of (fitting y row) (kept (y .trains) (y .groups) row) t .0
 
-  pub fits-allowed : T (fitting y row) → T (allowed y row)
+  pub allowed-keeps : T (allowed y row) → T (kept (y .trains) (y .groups) row)
   unfolding allowed
-  fits-allowed t = t
+  allowed-keeps t = both-of (fitting y row) (kept (y .trains) (y .groups) row) t .1
+
+  pub fits-allowed : T (fitting y row) → T (kept (y .trains) (y .groups) row) → T (allowed y row)
+  unfolding allowed
+  fits-allowed t k = both (fitting y row) (kept (y .trains) (y .groups) row) t k
 
   pub allowed-is : T (allowed y row) → Fitting y row
   allowed-is t = fitting-is (allowed-fits t)

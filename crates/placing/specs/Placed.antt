@@ -1,36 +1,73 @@
 -- The best row behind the solved table, and what placing leaves in lent memory.
 -- Assumes nothing.
-use mathlib.Core.Path.{_≡_}
+use mathlib.Core.Path.{_≡_, refl}
+use mathlib.Core.Bool.{Bool, true, false, cond, _&&_}
 use mathlib.Core.List.{List}
 use mathlib.Core.Option.{some}
-use Prim.Native.Nat.{ℕ, _-_, _*_, _^_, _<_}
+use Prim.Native.Nat.{ℕ, _-_, _*_, _^_, _≤_, _<_}
 use native.Mathlib.Omega.{arith}
-use lib.Dec.{T}
+use lib.Count.{ones}
+use lib.Dec.{T, leb}
 use lib.ListN.{getD, take, drop}
-use Rattle.model.specs.Model.{Yard, SomeRow}
+use Rattle.model.specs.Model.{Yard, NoRow}
 use Rattle.model.specs.BestOf.{bestOf, best-is}
 use Rattle.day.specs.Sound.{dayLimits, sound}
 use Rattle.day.specs.Most.{cost-most}
 use Rattle.optimum.specs.Layers.{Solved}
 use Rattle.optimum.specs.Chosen.{rowIn, Leads}
-use Rattle.staging.specs.Tables.{servable, stageKey, noCost}
+use Rattle.staging.specs.Tables.{together, servable, stageKey, barred, noCost}
 use Rattle.staging.specs.Reachable.{Reachable}
-use Rattle.staging.specs.Solution.{solution-leads, solution-best, solution-some}
+use Rattle.staging.specs.FromTables.{admitted}
+use Rattle.staging.specs.Solution.{solution-leads, solution-best, solution-none}
 
--- the best row is in the first n bytes of the row, which is otherwise unchanged; of the areas only the words of the sets are used
+-- where a row is allowed: the best one is in the first n bytes of the row, which is otherwise unchanged; of the areas only the words of the sets are used
 pub record Placed (y : Yard) (size : ℕ) (cost₀ choice₀ row₀ cost choice row : List ℕ) : Type 0 where
   pub best : bestOf y ≡ some (take (y .trains) row)
   pub rest : drop (y .trains) row ≡ drop (y .trains) row₀
   pub costs : drop size cost ≡ drop size cost₀
   pub choices : drop (y .slots * size) choice ≡ drop (y .slots * size) choice₀
 
-module _ (y : Yard) {N : ℕ} {a₀ c₀ a c : List ℕ} (s : T (sound dayLimits y)) (size : N ≡ 2 ^ y .trains) (some-row : SomeRow y)
+-- where none is: the row is unchanged
+pub record Unplaced (y : Yard) (size : ℕ) (cost₀ choice₀ row₀ cost choice row : List ℕ) : Type 0 where
+  pub nowhere : NoRow y
+  pub same : row ≡ row₀
+  pub costs : drop size cost ≡ drop size cost₀
+  pub choices : drop (y .slots * size) choice ≡ drop (y .slots * size) choice₀
+
+abbrev pub Places : Yard → ℕ → List ℕ → List ℕ → List ℕ → List ℕ → List ℕ → List ℕ → Bool → Type 0
+Places y size cost₀ choice₀ row₀ cost choice row true = Placed y size cost₀ choice₀ row₀ cost choice row
+Places y size cost₀ choice₀ row₀ cost choice row false = Unplaced y size cost₀ choice₀ row₀ cost choice row
+
+module _ {y : Yard} {size : ℕ} {cost₀ choice₀ row₀ cost choice row : List ℕ} where
+  pub is-placed : (r : Bool) → Places y size cost₀ choice₀ row₀ cost choice row r → r ≡ true → Placed y size cost₀ choice₀ row₀ cost choice row
+  is-placed true h e = h
+  is-placed false h e = absurd (let z : _≡_ {A = ℕ} 0 1 = cc in omega arith)
+
+  pub is-unplaced : (r : Bool) → Places y size cost₀ choice₀ row₀ cost choice row r → r ≡ false → Unplaced y size cost₀ choice₀ row₀ cost choice row
+  is-unplaced true h e = absurd (let z : _≡_ {A = ℕ} 0 1 = cc in omega arith)
+  is-unplaced false h e = h
+
+-- ---- the value that stands for all trains decides
+
+module _ (y : Yard) {N : ℕ} {a₀ c₀ a c : List ℕ} (s : T (sound dayLimits y)) (size : N ≡ 2 ^ y .trains)
     (solved : Solved (servable y) (stageKey y) noCost (Reachable N (y .tracks)) N (y .slots) 0 a₀ c₀ a c) where
-  found : getD a (N - 1) 0 < noCost
-  found = solution-some y size solved (some-row .0) (some-row .1) (omega (arith, cost-most y (some-row .0) s))
+  pub leads : getD a (N - 1) 0 < noCost → Leads c (y .trains) (y .slots) N (rowIn c (y .trains) (y .slots) N)
+  leads = solution-leads y size solved
 
-  pub leads : Leads c (y .trains) (y .slots) N (rowIn c (y .trains) (y .slots) N)
-  leads = solution-leads y size solved found
+  pub best-found : getD a (N - 1) 0 < noCost → bestOf y ≡ some (rowIn c (y .trains) (y .slots) N)
+  best-found found = best-is y (rowIn c (y .trains) (y .slots) N) (solution-best y size solved found)
 
-  pub best-found : bestOf y ≡ some (rowIn c (y .trains) (y .slots) N)
-  best-found = best-is y (rowIn c (y .trains) (y .slots) N) (solution-best y size solved found)
+  pub none-found : noCost ≤ getD a (N - 1) 0 → NoRow y
+  none-found = solution-none y size solved (λ row. omega (arith, cost-most y row s))
+
+-- ---- the table of prices, with the groups barred
+
+pub prices-barred : (y : Yard) (s x : ℕ) → cond (together (y .trains) (y .groups) s) (cond (leb (ones s) (y .tracks)) x barred) barred
+    ≡ cond (admitted y s) x barred
+prices-barred y s x = go (leb (ones s) (y .tracks)) (together (y .trains) (y .groups) s)
+  where
+    go : (a b : Bool) → cond b (cond a x barred) barred ≡ cond (a && b) x barred
+    go true true = refl
+    go true false = refl
+    go false true = refl
+    go false false = refl

@@ -6,13 +6,13 @@ use mathlib.Core.List.{List, [], _∷_}
 use Prim.Native.Nat.{ℕ, _+_, _/_, _%_, _<_}
 use native.Mathlib.Omega.{arith}
 use lib.Dec.{T, eqb}
-use lib.ListN.{length, getD, length-append}
+use lib.ListN.{length, getD, replicate, length-append}
 use Rattle.fold.specs.Fold.{sum, count, some, each, each-at}
 use Rattle.fold.specs.Sums.{sum-ext}
 use Rattle.fold.specs.Listed.{listed}
 use Rattle.counting.specs.Counting.{figures}
-use Rattle.model.specs.Model.{Yard, Outcome, slotOf, outcome, lateSupplier, revisiting, revisits, splitBoxes, splitsTo, splits, weighed, inSlots, inTime, inWindow, load, roomy, fitting, allowed}
-use Rattle.day.specs.Sound.{dayLimits, Range, range, within, headRanges, trainRanges, numberBefore, trainSound, unused, positionSound, pairSound, receiverSound, shaped, sound}
+use Rattle.model.specs.Model.{Yard, Outcome, slotOf, outcome, lateSupplier, revisiting, revisits, splitBoxes, splitsTo, splits, weighed, inSlots, inTime, inWindow, load, roomy, fitting, grouped, apart, kept, allowed}
+use Rattle.day.specs.Sound.{dayLimits, Range, range, within, headRanges, trainRanges, numberBefore, trainSound, unused, positionSound, groupSound, pairSound, receiverSound, shaped, sound}
 use Rattle.day.specs.SoundLaws.{within-is}
 use Rattle.lines.specs.Lines.{rowText, rowsText}
 use Rattle.lines.specs.RowSize.{inRow, digits-size, row-bytes}
@@ -35,16 +35,17 @@ dearest = record {
   numbers = listed 12 (λ i. 99988 + i);
   first = packed;
   last = packed;
+  groups = replicate 12 0;
   width = 12;
   boxes = listed 144 (λ q. cond (eqb (q / 12) (q % 12)) 0 255);
 }
 
 pub dearest-sound : T (sound dayLimits dearest)
-unfolding packed dearest each within headRanges trainRanges numberBefore trainSound unused positionSound pairSound receiverSound shaped sound
+unfolding packed dearest each within headRanges trainRanges numberBefore trainSound unused positionSound groupSound pairSound receiverSound shaped sound
 dearest-sound = tt
 
 pub packed-allowed : T (allowed dearest packed)
-unfolding packed dearest count each inSlots inTime inWindow load roomy fitting allowed
+unfolding packed dearest count each inSlots inTime inWindow load roomy fitting grouped apart kept allowed
 packed-allowed = tt
 
 -- 11 trains come back, and all boxes but those of the four pairs that share a slot are split moves

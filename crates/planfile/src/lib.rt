@@ -1,4 +1,4 @@
-// Writing a plan as a plan file (document 01): a day and a row; checks 8, 11, 12, 13, then 10; fills the first bytes of the output,
+// Writing a plan as a plan file (document 01): a day and a row; checks 8, 11, 12, 13, 17, then 10; fills the first bytes of the output,
 // returns their count and leaves the bytes beyond. A refusal changes no byte.
 //
 // Proved: for every record, every row and every output `write_plan` answers and leaves what `planWrites` and `planLeaves` of

@@ -1,6 +1,6 @@
--- What follows from planning's answer alone: where both checks hold it is the best plan or 9, and 4,096 and 32,768 words suffice for every
--- sound day; a plan is the best row of a sound day; its refusals are 8, 10 and 9; and a row of as many bytes as a day may have trains is as
--- good as one of n.
+-- What follows from planning's answer alone: where both checks hold it is the best plan, 9 or 16, and 4,096 and 32,768 words suffice for
+-- every sound day; a plan is the best row of a sound day; its refusals are 8, 10, 9 and 16; and a row of as many bytes as a day may have
+-- trains is as good as one of n.
 -- Assumes nothing.
 use mathlib.Core.Path.{_≡_, refl, sym, ap, _∙_, subst}
 use mathlib.Core.Bool.{Bool, true, false, cond, _&&_}
@@ -17,12 +17,46 @@ use borrow.Author.Tests.{le-leb}
 use Rattle.fold.specs.Test.{is-true, of-true, both, both-of}
 use Rattle.model.specs.Model.{Yard, Outcome, outcome, Best}
 use Rattle.model.specs.BestOf.{bestOf, is-best}
-use Rattle.day.specs.Answer.{gives, refuses, code}
+use Rattle.model.specs.Overbooked.{Interval, firstOverbooked}
+use Rattle.day.specs.Answer.{gives, refuses, onGiven, code}
 use Rattle.day.specs.AnswerLaws.{gives-same, checked-holds, checked-gives, Only}
 use Rattle.day.specs.Sound.{dayLimits, sound}
 use Rattle.day.specs.SoundLaws.{sound-is}
 use Rattle.day.specs.declared.Limits.{Limits}
-use Rattle.planning.specs.Planning.{costWords, choiceWords, costArea, choiceArea, suffices, bestAnswer, planChecks, planned, begins, placed, rowAfter}
+use Rattle.planning.specs.Planning.{costWords, choiceWords, costArea, choiceArea, suffices, noRow, bestAnswer, planChecks, planned, begins, placed, rowAfter}
+
+-- ---- where no row is allowed
+
+-- 9 or 16
+abbrev pub NoRowRefusal : ℕ → Type 0
+NoRowRefusal k = (k ≡ 9) ⊎ (k ≡ 16)
+
+-- it is handed on as it is
+pub none-answer : (y : Yard) → bestAnswer y none ≡ noRow y (firstOverbooked y)
+none-answer y = go (firstOverbooked y)
+  where
+    go : (w : Option Interval) → onGiven (noRow y w) (λ row. gives (outcome y row)) ≡ noRow y w
+    go none = refl
+    go (some w) = refl
+
+none-only : (y : Yard) (w : Option Interval) → Only {X = Outcome} (λ k carries. NoRowRefusal k) (noRow y w)
+none-only y none = inr refl
+none-only y (some w) = inl refl
+
+-- a refusal that the best plan's answer is
+best-only : (y : Yard) (b : Option (List ℕ)) → Only (λ k carries. NoRowRefusal k) (bestAnswer y b)
+best-only y none = subst (Only λ k carries. NoRowRefusal k) (sym (none-answer y)) (none-only y (firstOverbooked y))
+best-only y (some row) = tt
+
+pub best-refuses : (y : Yard) (b : Option (List ℕ)) {k : ℕ} {carries : List ℕ} → bestAnswer y b ≡ refuses k carries → NoRowRefusal k
+best-refuses y b e = subst (Only λ k carries. NoRowRefusal k) e (best-only y b)
+
+pub none-gives : (y : Yard) (o : Outcome) → bestAnswer y none ≡ gives o → ⊥
+none-gives y o e = go (firstOverbooked y) (sym (none-answer y) ∙ e)
+  where
+    go : (w : Option Interval) → noRow y w ≡ gives o → ⊥
+    go none q = let z : _≡_ {A = ℕ} 0 1 = cc in omega arith
+    go (some w) q = let z : _≡_ {A = ℕ} 0 1 = cc in omega arith
 
 -- ---- where both checks hold
 
@@ -61,28 +95,25 @@ module _ (l : Limits) (y : Yard) (costs choices bytes : ℕ) where
   from-best o e = let (h, b) = checked-gives (planChecks l y costs choices bytes) (bestAnswer y (bestOf y)) o e in go (h .0) (bestOf y) refl b
     where
       go : T (sound l y) → (b : Option (List ℕ)) → bestOf y ≡ b → bestAnswer y b ≡ gives o → FromBest l y o
-      go s none q g = absurd (let z : _≡_ {A = ℕ} 0 1 = cc in omega arith)
+      go s none q g = absurd (none-gives y o g)
       go s (some row) q g = record { isSound = s; row = row; best = is-best y row q; numbers = sym (gives-same g) }
 
   -- ---- a refusal
 
-  pub refuses-only : {k : ℕ} {carries : List ℕ} → planned l y costs choices bytes ≡ refuses k carries → (k ≡ 8) ⊎ ((k ≡ 10) ⊎ (k ≡ 9))
+  pub refuses-only : {k : ℕ} {carries : List ℕ} → planned l y costs choices bytes ≡ refuses k carries → (k ≡ 8) ⊎ ((k ≡ 10) ⊎ NoRowRefusal k)
   unfolding planned
   refuses-only {k} {carries} = go (sound l y) (suffices y costs choices bytes) (bestOf y)
     where
-      go : (s e : Bool) (b : Option (List ℕ)) → cond s (cond e (bestAnswer y b) (refuses 10 (0 ∷ []))) (refuses 8 (0 ∷ [])) ≡ refuses k carries → (k ≡ 8) ⊎ ((k ≡ 10) ⊎ (k ≡ 9))
+      go : (s e : Bool) (b : Option (List ℕ)) → cond s (cond e (bestAnswer y b) (refuses 10 (0 ∷ []))) (refuses 8 (0 ∷ [])) ≡ refuses k carries → (k ≡ 8) ⊎ ((k ≡ 10) ⊎ NoRowRefusal k)
       go false e b q = inl (sym (ap code q))
       go true false b q = inr (inl (sym (ap code q)))
-      go true true none q = inr (inr (sym (ap code q)))
-      go true true (some row) q = absurd (let z : _≡_ {A = ℕ} 0 1 = cc in omega arith)
+      go true true b q = inr (inr (best-refuses y b q))
 
--- on a sound day, in areas that suffice, it is 9
-pub planned-only : (l : Limits) (y : Yard) (costs choices bytes : ℕ) → T (begins l y costs choices bytes) → Only (λ k carries. k ≡ 9) (planned l y costs choices bytes)
-planned-only l y costs choices bytes begun = subst (Only λ k carries. k ≡ 9) (sym (planned-begun l y costs choices bytes begun)) (go (bestOf y))
-  where
-    go : (b : Option (List ℕ)) → Only (λ k carries. k ≡ 9) (bestAnswer y b)
-    go none = refl
-    go (some row) = tt
+-- on a sound day, in areas that suffice, it is 9 or 16
+pub planned-only : (l : Limits) (y : Yard) (costs choices bytes : ℕ) → T (begins l y costs choices bytes)
+    → Only (λ k carries. NoRowRefusal k) (planned l y costs choices bytes)
+planned-only l y costs choices bytes begun =
+    subst (Only λ k carries. NoRowRefusal k) (sym (planned-begun l y costs choices bytes begun)) (best-only y (bestOf y))
 
 -- ---- a row that is long enough for every sound day
 

@@ -1,14 +1,18 @@
 -- Demand 3, from the planning call's contract and the model alone. Let `said` and `after` be what a call answers and leaves in the row, as
 -- its contract says, on a sound day and lent the memory that 01 names: at least 2^n words, T × 2^n words and n bytes. Then
---   plan-or-nine   a plan or 9 is returned, never 10;
---   plan-exactly   a plan is returned exactly when an allowed row exists;
---   plan-best      it is the best row: allowed, no allowed row is cheaper, none of equal cost comes before it (01's order); its three
---                  numbers are the model's; and the bytes beyond it are those lent;
---   plan-refused   otherwise the answer is 9, with the overbooked interval that 01 names and the number of trains bound inside.
+--   plan-or-refused  a plan, 9 or 16 is returned, never 10;
+--   plan-exactly     a plan is returned exactly when an allowed row exists;
+--   plan-best        it is the best row: allowed, no allowed row is cheaper, none of equal cost comes before it (01's order); its three
+--                    numbers are the model's; and the bytes beyond it are those lent;
+--   plan-refused     otherwise the answer is 9, with the overbooked interval that 01 names and the number of trains bound inside, or 16;
+--   nine-exactly     9 is returned exactly when an interval is overbooked;
+--   sixteen-exactly  16 is returned exactly when none is and still no row is allowed;
+--   ungrouped        on a day without groups nothing differs from before order 4: a plan or 9 is returned.
 -- On any day and in any memory:
---   unsound-eight  a day that is not sound gets 8, whatever is lent;
---   short-ten      a sound day gets 10 where less is lent than 01 names;
---   memory-after   what lent memory holds: after 8 or 10 all that it held; after 9 the row does; words beyond 2^n and T × 2^n always do.
+--   unsound-eight    a day that is not sound gets 8, whatever is lent;
+--   short-ten        a sound day gets 10 where less is lent than 01 names;
+--   memory-after     what lent memory holds: after 8 or 10 all that it held; after 9 and 16 the row does; words beyond 2^n and T × 2^n
+--                    always do.
 -- Assumes nothing.
 use mathlib.Core.Path.{_≡_, refl, sym, ap, _∙_, subst}
 use mathlib.Core.Bool.{Bool, true, false, cond, _&&_}
@@ -21,18 +25,20 @@ use lib.Dec.{T, leb, leb→le, le→leb}
 use lib.ListN.{length, take, drop}
 use Rattle.fold.specs.Test.{is-true, is-false, both, both-of}
 use Rattle.fold.specs.Listed.{take-front, drop-front}
-use Rattle.model.specs.Model.{Yard, Outcome, outcome, boundInside, Best, SomeRow, NoRow, FirstOverbooked}
+use Rattle.model.specs.Model.{Yard, Outcome, outcome, boundInside, Best, SomeRow, NoRow, overbooked, FirstOverbooked}
 use Rattle.model.specs.Rows.{allowed-is}
-use Rattle.model.specs.BestOf.{bestOf, is-best, is-none}
-use Rattle.model.specs.Overbooked.{SaysFirst, first-says}
+use Rattle.model.specs.Groups.{NoGroups}
+use Rattle.model.specs.BestOf.{bestOf, none-is, is-best, is-none}
+use Rattle.model.specs.Overbooked.{Interval, firstOverbooked, SaysFirst, first-says}
 use Rattle.day.specs.Answer.{Answer, gives, refuses, code}
 use Rattle.day.specs.AnswerLaws.{gives-same}
 use Rattle.day.specs.Sound.{sound}
 use Rattle.day.specs.SoundLaws.{sound-is}
 use Rattle.day.specs.declared.Limits.{Limits}
-use Rattle.feasibility.specs.RowOrNone.{no-row-over}
-use Rattle.planning.specs.Planning.{costWords, choiceWords, suffices, begins, bestAnswer, carriedBy, planned, placed, rowAfter, openWords, Stays}
-use Rattle.planning.specs.Answers.{planned-begun, row-begun}
+use Rattle.feasibility.specs.NoRow.{no-row}
+use Rattle.feasibility.specs.RowOrNone.{none-spacious, some-over, no-row-over}
+use Rattle.planning.specs.Planning.{costWords, choiceWords, suffices, begins, noRow, bestAnswer, planned, placed, rowAfter, openWords, Stays}
+use Rattle.planning.specs.Answers.{NoRowRefusal, none-answer, best-refuses, none-gives, planned-begun, row-begun}
 
 -- ---- the memory named in 01
 
@@ -87,6 +93,11 @@ module _ (l : Limits) (y : Yard) (costs choices : ℕ) (row : List ℕ)
     pub named : FirstOverbooked y first last
     pub is : said ≡ refuses 9 (first ∷ last ∷ boundInside y first last ∷ [])
 
+  pub record Sixteen : Type 0 where
+    pub nowhere : NoRow y
+    pub spacious : (a b : ℕ) → T (overbooked y a b) → ⊥
+    pub is : said ≡ refuses 16 (0 ∷ [])
+
   some-best : (r : List ℕ) → bestOf y ≡ some r → (said ≡ gives (outcome y r)) × Best y r × (after ≡ r ++ drop (y .trains) row) × (length r ≡ y .trains)
   some-best r e =
       let b = is-best y r e in
@@ -105,24 +116,30 @@ module _ (l : Limits) (y : Yard) (costs choices : ℕ) (row : List ℕ)
         beyond = ap (drop (y .trains)) is ∙ drop-front r (drop (y .trains) row) long;
       }
 
-  nine : bestOf y ≡ none → Nine
-  nine e =
-      let (w, f) = no-row-over y (sound-is l y isSound .windows) (is-none y e) in
+  nine : bestOf y ≡ none → (w : Interval) → firstOverbooked y ≡ some w → Nine
+  nine e w f =
       record {
         first = w .first;
         last = w .last;
         named = subst (SaysFirst y) f (first-says y);
-        is = says ∙ ap (bestAnswer y) e ∙ ap (λ i. refuses 9 (carriedBy y i)) f;
+        is = says ∙ ap (bestAnswer y) e ∙ none-answer y ∙ ap (noRow y) f;
       }
 
-  not-both : (v : List ℕ) (o : Outcome) → said ≡ refuses 9 v → said ≡ gives o → ⊥
-  not-both v o a b = let e : refuses 9 v ≡ gives o = sym a ∙ b in let z : _≡_ {A = ℕ} 0 1 = cc in omega arith
+  sixteen : bestOf y ≡ none → firstOverbooked y ≡ none → Sixteen
+  sixteen e f = record { nowhere = is-none y e; spacious = none-spacious y f; is = says ∙ ap (bestAnswer y) e ∙ none-answer y ∙ ap (noRow y) f }
+
+  refused : bestOf y ≡ none → Nine ⊎ Sixteen
+  refused e = go (firstOverbooked y) refl
+    where
+      go : (o : Option Interval) → firstOverbooked y ≡ o → Nine ⊎ Sixteen
+      go none f = inr (sixteen e f)
+      go (some w) f = inl (nine e w f)
 
   pub plan-best : (o : Outcome) → said ≡ gives o → Given o
   plan-best o g = go (bestOf y) refl
     where
       go : (b : Option (List ℕ)) → bestOf y ≡ b → Given o
-      go none e = absurd (not-both _ o (nine e .is) g)
+      go none e = absurd (none-gives y o (sym (says ∙ ap (bestAnswer y) e) ∙ g))
       go (some r) e = from-best r o e g
 
   pub plan-exactly : ((o : Outcome) × (said ≡ gives o)) ↔ SomeRow y
@@ -132,19 +149,47 @@ module _ (l : Limits) (y : Yard) (costs choices : ℕ) (row : List ℕ)
       go r none e = absurd (is-none y e (r .0) (r .1))
       go r (some best) e = (outcome y best, some-best best e .0)
 
-  pub plan-refused : NoRow y → Nine
-  plan-refused nowhere = go (bestOf y) refl
-    where
-      go : (b : Option (List ℕ)) → bestOf y ≡ b → Nine
-      go none e = nine e
-      go (some r) e = absurd (nowhere r (is-best y r e .isAllowed))
+  pub plan-refused : NoRow y → Nine ⊎ Sixteen
+  plan-refused nowhere = refused (none-is y nowhere)
 
-  pub plan-or-nine : ((o : Outcome) × (said ≡ gives o)) ⊎ Nine
-  plan-or-nine = go (bestOf y) refl
+  pub plan-or-refused : ((o : Outcome) × (said ≡ gives o)) ⊎ (Nine ⊎ Sixteen)
+  plan-or-refused = go (bestOf y) refl
     where
-      go : (b : Option (List ℕ)) → bestOf y ≡ b → ((o : Outcome) × (said ≡ gives o)) ⊎ Nine
-      go none e = inr (nine e)
+      go : (b : Option (List ℕ)) → bestOf y ≡ b → ((o : Outcome) × (said ≡ gives o)) ⊎ (Nine ⊎ Sixteen)
+      go none e = inr (refused e)
       go (some r) e = inl (outcome y r, some-best r e .0)
+
+  -- ---- when 9, and when 16
+
+  -- where it is one of the two, no row is allowed
+  said-none : {k : ℕ} {carries : List ℕ} → said ≡ refuses k carries → bestOf y ≡ none
+  said-none {k} {carries} e = go (bestOf y) refl
+    where
+      go : (b : Option (List ℕ)) → bestOf y ≡ b → bestOf y ≡ none
+      go none f = f
+      go (some r) f = absurd (let z : gives (outcome y r) ≡ refuses k carries = sym (some-best r f .0) ∙ e in let q : _≡_ {A = ℕ} 0 1 = cc in omega arith)
+
+  pub nine-exactly : ((carries : List ℕ) × (said ≡ refuses 9 carries)) ↔ ((a b : ℕ) × T (overbooked y a b))
+  nine-exactly = (
+    λ w. ⊎-elim (λ (n : Nine). (n .first, n .last, n .named .isOver)) (λ (s : Sixteen). absurd (let e = ap code (sym (w .1) ∙ s .is) in omega arith)) (refused (said-none (w .1))),
+    λ w. ⊎-elim (λ (n : Nine). (_, n .is)) (λ (s : Sixteen). absurd (s .spacious (w .0) (w .1) (w .2))) (refused (none-is y (no-row y (w .0) (w .1) (w .2)))),
+  )
+
+  pub sixteen-exactly : (said ≡ refuses 16 (0 ∷ [])) ↔ (NoRow y × ((a b : ℕ) → T (overbooked y a b) → ⊥))
+  sixteen-exactly = (
+    λ e. ⊎-elim (λ (n : Nine). absurd (let q = ap code (sym e ∙ n .is) in omega arith)) (λ (s : Sixteen). (s .nowhere, s .spacious)) (refused (said-none e)),
+    λ w. ⊎-elim (λ (n : Nine). absurd (w .1 (n .first) (n .last) (n .named .isOver))) (λ (s : Sixteen). s .is) (plan-refused (w .0)),
+  )
+
+  -- ---- a day without groups: its allowed rows are those that fit (model's `without-groups`), and the answer is a plan or 9
+
+  pub ungrouped : NoGroups y → ((o : Outcome) × (said ≡ gives o)) ⊎ Nine
+  ungrouped none-grouped = ⊎-elim (λ g. inl g) (⊎-elim (λ n. inr n) (λ (s : Sixteen). absurd (never s))) plan-or-refused
+    where
+      never : Sixteen → ⊥
+      never s =
+          let (w, f) = no-row-over y (sound-is l y isSound .windows) none-grouped (s .nowhere) in
+          s .spacious (w .first) (w .last) (some-over y w f)
 
 -- ---- lent memory after the call, on any day
 
@@ -155,8 +200,8 @@ module _ (l : Limits) (y : Yard) (cost choice row : List ℕ) (said : Answer Out
   pub record Memory : Type 0 where
     -- after 8 or 10 nothing lent has changed
     pub unchanged : {k : ℕ} {carries : List ℕ} → said ≡ refuses k carries → (k ≡ 8) ⊎ (k ≡ 10) → (costAfter ≡ cost) × ((choiceAfter ≡ choice) × (rowAfterwards ≡ row))
-    -- after 9 the row has not
-    pub rowKept : {carries : List ℕ} → said ≡ refuses 9 carries → rowAfterwards ≡ row
+    -- after 9 and 16 the row has not
+    pub rowKept : {k : ℕ} {carries : List ℕ} → said ≡ refuses k carries → NoRowRefusal k → rowAfterwards ≡ row
     -- words beyond the first 2^n and the first T × 2^n are unchanged
     pub costBeyond : drop (2 ^ y .trains) costAfter ≡ drop (2 ^ y .trains) cost
     pub choiceBeyond : drop (y .slots * 2 ^ y .trains) choiceAfter ≡ drop (y .slots * 2 ^ y .trains) choice
@@ -165,12 +210,11 @@ module _ (l : Limits) (y : Yard) (cost choice row : List ℕ) (said : Answer Out
   unfolding planned rowAfter
   memory-after = go (sound l y) (suffices y (length cost) (length choice) (length row)) contract contractRow contractCost contractChoice
     where
-      -- the best plan or 9: neither 8 nor 10, and the row changes only by a plan
+      -- the best plan, 9 or 16: neither 8 nor 10, and the row changes only by a plan
       other : {k : ℕ} {carries : List ℕ} (b : Option (List ℕ)) → bestAnswer y b ≡ refuses k carries → (k ≡ 8) ⊎ (k ≡ 10) → ⊥
-      other none q z = let e = ap code q in ⊎-elim (λ h. omega arith) (λ h. omega arith) z
-      other (some best) q z = let e : _≡_ {A = ℕ} 0 1 = cc in omega arith
+      other b q z = ⊎-elim (λ n. ⊎-elim (λ h. omega arith) (λ h. omega arith) z) (λ n. ⊎-elim (λ h. omega arith) (λ h. omega arith) z) (best-refuses y b q)
 
-      kept : {carries : List ℕ} (b : Option (List ℕ)) → bestAnswer y b ≡ refuses 9 carries → placed b row ≡ row
+      kept : {k : ℕ} {carries : List ℕ} (b : Option (List ℕ)) → bestAnswer y b ≡ refuses k carries → placed b row ≡ row
       kept none q = refl
       kept (some best) q = absurd (let e : _≡_ {A = ℕ} 0 1 = cc in omega arith)
 
@@ -179,19 +223,19 @@ module _ (l : Limits) (y : Yard) (cost choice row : List ℕ) (said : Answer Out
           → Stays (openWords (s && e) (choiceWords y)) choice choiceAfter → Memory
       go false e a r c h = record {
         unchanged = λ q z. (c, (h, r));
-        rowKept = λ q. r;
+        rowKept = λ q n. r;
         costBeyond = ap (drop (2 ^ y .trains)) c;
         choiceBeyond = ap (drop (y .slots * 2 ^ y .trains)) h;
       }
       go true false a r c h = record {
         unchanged = λ q z. (c, (h, r));
-        rowKept = λ q. r;
+        rowKept = λ q n. r;
         costBeyond = ap (drop (2 ^ y .trains)) c;
         choiceBeyond = ap (drop (y .slots * 2 ^ y .trains)) h;
       }
       go true true a r c h = record {
         unchanged = λ q z. absurd (other (bestOf y) (sym a ∙ q) z);
-        rowKept = λ q. r ∙ kept (bestOf y) (sym a ∙ q);
+        rowKept = λ q n. r ∙ kept (bestOf y) (sym a ∙ q);
         costBeyond = c;
         choiceBeyond = h;
       }

@@ -3,11 +3,11 @@
 use mathlib.Core.Path.{_≡_, refl, sym, ap, ap₂, _∙_, subst}
 use mathlib.Core.Bool.{true, false, _&&_}
 use mathlib.Core.List.{List, [], _∷_, _++_}
-use mathlib.Core.Option.{some}
+use mathlib.Core.Option.{none, some}
 use Prim.Native.Nat.{ℕ, _*_, _^_, _≤_}
 use lib.ListN.{length, take, drop, take-append-drop}
 use lib.Seq.{length-take-le}
-use Rattle.model.specs.Model.{Yard, Outcome, outcome, boundInside}
+use Rattle.model.specs.Model.{Yard, Outcome, outcome, boundInside, NoRow}
 use Rattle.model.specs.BestOf.{bestOf, none-is}
 use Rattle.model.specs.Overbooked.{Interval, firstOverbooked}
 use Rattle.day.specs.Answer.{Answer, gives, refuses}
@@ -24,6 +24,10 @@ module _ (y : Yard) where
       → (refuses 9 (w .first ∷ w .last ∷ boundInside y (w .first) (w .last) ∷ []) ≡ bestAnswer y (bestOf y)) × (row ≡ placed (bestOf y) row)
   says-nine w row e = let n = none-is y (some-no-row y w e) in (rw (n, e), rw n)
 
+  -- none, and still no row is allowed
+  pub says-sixteen : (row : List ℕ) → firstOverbooked y ≡ none → NoRow y → (refuses 16 (0 ∷ []) ≡ bestAnswer y (bestOf y)) × (row ≡ placed (bestOf y) row)
+  says-sixteen row e nowhere = let n = none-is y nowhere in (rw (n, e), rw n)
+
   -- the best row stands in the first n bytes
   pub says-plan : (row₀ row : List ℕ) → bestOf y ≡ some (take (y .trains) row) → drop (y .trains) row ≡ drop (y .trains) row₀ → y .trains ≤ length row
       → (gives (outcome y (take (y .trains) row)) ≡ bestAnswer y (bestOf y)) × (row ≡ placed (bestOf y) row₀)
@@ -34,7 +38,7 @@ module _ (y : Yard) where
         ∙ sym (ap (λ o. placed o row₀) b),
   )
 
--- a sound day with areas that suffice: the best plan or 9
+-- a sound day with areas that suffice: the best plan, 9 or 16
 pub record Decided (y : Yard) (size : ℕ) (cost₀ choice₀ row₀ : List ℕ) (said : Answer Outcome) (cost choice row : List ℕ) : Type 0 where
   pub says : said ≡ bestAnswer y (bestOf y)
   pub rowIs : row ≡ placed (bestOf y) row₀

@@ -1,5 +1,5 @@
 -- What the planning call answers, for any record and any areas: the checks 8 and 10 of document 01, then the best plan, or 9 with the
--- first overbooked interval; and what it leaves in lent memory.
+-- first overbooked interval, or 16 of document 02; and what it leaves in lent memory.
 -- Assumes nothing.
 use mathlib.Core.Path.{_≡_}
 use mathlib.Core.Bool.{Bool, cond, _&&_}
@@ -45,15 +45,15 @@ suffices y costs choices bytes = leb (costWords y) costs && leb (choiceWords y) 
 
 -- ---- the answer
 
--- 9 carries the interval and the trains bound inside. (That a day without a plan has one is `plan-refused` of Demand.antt.)
-abbrev pub carriedBy : Yard → Option Interval → List ℕ
-carriedBy y (some w) = w .first ∷ w .last ∷ boundInside y (w .first) (w .last) ∷ []
-carriedBy y none = []
+-- where no row is allowed: 9 with the first overbooked interval and the trains bound inside; 16 where none is overbooked
+abbrev pub noRow : {X : Type 0} → Yard → Option Interval → Answer X
+noRow y (some w) = refuses 9 (w .first ∷ w .last ∷ boundInside y (w .first) (w .last) ∷ [])
+noRow y none = refuses 16 (0 ∷ [])
 
 -- the best row, or the refusal where there is none
 abbrev pub bestRow : Yard → Option (List ℕ) → Answer (List ℕ)
 bestRow y (some row) = gives row
-bestRow y none = refuses 9 (carriedBy y (firstOverbooked y))
+bestRow y none = noRow y (firstOverbooked y)
 
 abbrev pub bestAnswer : Yard → Option (List ℕ) → Answer Outcome
 bestAnswer y best = onGiven (bestRow y best) λ row. gives (outcome y row)

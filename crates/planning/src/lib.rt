@@ -1,4 +1,4 @@
-// The planning call (document 01): the best plan of a day, or refusal 8, 10 or 9.
+// The planning call (document 01): the best plan of a day, or refusal 8, 10, 9 or 16.
 //
 // Proved: for every record and all lent memory `plan` answers what `planned` of specs/Planning.antt says and leaves the row as
 // `rowAfter` says; of the two areas only the words that planning needs may change. specs/Demand.antt draws demand 3 from this.
@@ -38,7 +38,7 @@ fn are_enough(n: usize, slots: u8, size: usize, costs: usize, choices: usize, by
     (size <= costs) & (words <= choices) & (n <= bytes)
 }
 
-// The plan of a sound day, or the first overbooked interval.
+// The plan of a sound day, or the first overbooked interval (9), or that the groups can't be kept (16).
 fn plan_sound(
     day: Day,
     cost: &mut [u64],
@@ -59,13 +59,15 @@ fn plan_sound(
         last: b,
         trains: k,
     } = found {
-        return Planned::Refused(Refusal::NoAllowedRow {
+        return Planned::Refused(Refusal::Overbooked {
             first: a,
             last: b,
             trains: k,
         });
     }
-    placing::place_trains(day, cost, choice, row, size);
+    if !placing::place_trains(day, cost, choice, row, size) {
+        return Planned::Refused(Refusal::NoAllowedRow);
+    }
     Planned::Plan(counting::value_slots(&boxes, 12, &row[..n], n, day.revisit, day.split))
 }
 

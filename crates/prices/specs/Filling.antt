@@ -70,13 +70,7 @@ module _ (n : ℕ) (a : ℕ → ℕ → ℕ) {c₀ c : List ℕ} (size below : �
   pair-next pair p g =
       filled-end (size + (below + below)) (added-filled h g (λ m r. omega (arith, pair-at m r))) (omega arith) (omega arith)
 
--- ---- the loop that prices the table reads each word before it writes it
-
-pub unread : {N : ℕ} {a₀ a : List ℕ} → Kept N a₀ a → at a N ≡ at a₀ N
-unread {N} {a₀} {a} h =
-    let e : N + 0 ≡ N = omega arith in
-    let here : (b : List ℕ) → getD (drop N b) 0 0 ≡ at b N = λ b. getD-drop N b 0 0 ∙ ap (λ (x : ℕ). getD b x 0) e in
-    sym (here a) ∙ ap (λ (b : List ℕ). getD b 0 0) (h .rest) ∙ here a₀
+-- ---- the prices of the filled split moves
 
 pub split-priced : (n : ℕ) (a : ℕ → ℕ → ℕ) {N : ℕ} {b₀ b c : List ℕ} (tracks split : ℕ) → Filled (fromOutside n a) N b₀ b
     → Filled (λ s. priceOf tracks split s (at b s)) N b c → Filled (splitCost n a tracks split) N b₀ c

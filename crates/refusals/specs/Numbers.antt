@@ -9,7 +9,7 @@ use lib.ListN.{getD}
 use Rattle.day.specs.Answer.{number, carried}
 use Rattle.refusals.specs.declared.Numbered.{Numbered}
 use Rattle.day.specs.declared.Refusal.{Refusal}
-use Rattle.day.specs.declared.Refusal.the-variants.{NamesLine, RowForm, OutOfLimits, NumberOrder, WindowOrder, UnknownTrain, PairOrder, Unsound, NoAllowedRow, TooShort, RowLength, OutsideWindow, SlotOverfull, WithoutSlot}
+use Rattle.day.specs.declared.Refusal.the-variants.{NamesLine, RowForm, OutOfLimits, NumberOrder, WindowOrder, UnknownTrain, PairOrder, Unsound, Overbooked, TooShort, RowLength, OutsideWindow, SlotOverfull, WithoutSlot, GroupRow, NoAllowedRow, GroupParted}
 
 pub record Tells (k : ℕ) (carries : List ℕ) (r : Numbered) : Type 0 where
   pub number : r .number ≡ k
@@ -30,9 +30,12 @@ carried-values (WindowOrder line) = refl
 carried-values (UnknownTrain line) = refl
 carried-values (PairOrder line) = refl
 carried-values Unsound = refl
-carried-values (NoAllowedRow first last trains) = refl
+carried-values (Overbooked first last trains) = refl
 carried-values TooShort = refl
 carried-values RowLength = refl
 carried-values (OutsideWindow position) = refl
 carried-values (SlotOverfull slot) = refl
 carried-values (WithoutSlot position) = refl
+carried-values (GroupRow line) = refl
+carried-values NoAllowedRow = refl
+carried-values (GroupParted group) = refl

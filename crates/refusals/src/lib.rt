@@ -51,7 +51,7 @@ pub fn in_numbers(refusal: Refusal) -> Numbered
         Refusal::UnknownTrain(line) => carrying(6, line),
         Refusal::PairOrder(line) => carrying(7, line),
         Refusal::Unsound => carrying(8, 0),
-        Refusal::NoAllowedRow {
+        Refusal::Overbooked {
             first,
             last,
             trains,
@@ -61,5 +61,8 @@ pub fn in_numbers(refusal: Refusal) -> Numbered
         Refusal::OutsideWindow(position) => carrying(12, position),
         Refusal::SlotOverfull(slot) => carrying(13, slot as usize),
         Refusal::WithoutSlot(position) => carrying(14, position),
+        Refusal::GroupRow(line) => carrying(15, line),
+        Refusal::NoAllowedRow => carrying(16, 0),
+        Refusal::GroupParted(group) => carrying(17, group as usize),
     }
 }

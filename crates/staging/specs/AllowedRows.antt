@@ -1,5 +1,6 @@
 -- The rows that the model allows are the rows of the staged choices whose sets may be served: `allowed-row` and `row-allowed`. The set of
--- a slot lies in the windows where each of its trains does (12), and has as many ones as the slot has trains (3).
+-- a slot lies in the windows where each of its trains does (12), has as many ones as the slot has trains (3), and parts no group where the
+-- row keeps them (order 4 of 02).
 -- Assumes nothing.
 use mathlib.Core.Path.{_≡_, refl, sym, _∙_, subst}
 use mathlib.Core.Bool.{_&&_}
@@ -7,16 +8,17 @@ use mathlib.Core.List.{List}
 use Prim.Native.Nat.{ℕ, zero, suc, _^_, _≤_, _<_}
 use native.Mathlib.Omega.{arith}
 use lib.Count.{ones}
-use lib.Dec.{T, leb, eqb, leb→le, le→leb, eqb→eq}
+use lib.Dec.{T, leb, eqb, eqb→eq}
 use borrow.Author.Tests.{eq-eqb}
-use Rattle.fold.specs.Test.{of-true, both, both-of}
+use Rattle.fold.specs.Test.{of-true}
 use Rattle.sets.specs.Mask.{has, has-mask, mask-lt, ones-mask}
-use Rattle.sets.specs.Subset.{Sub, subset, sub-mask}
+use Rattle.sets.specs.Subset.{Sub, sub-mask}
 use Rattle.model.specs.Model.{Yard, firstSlot, lastSlot, slotOf, load, allowed, inTime}
-use Rattle.model.specs.Rows.{both-le, le-both, allowed-is, is-fitting, fits-allowed}
+use Rattle.model.specs.Rows.{both-le, le-both, allowed-is, is-fitting, allowed-keeps, fits-allowed}
 use Rattle.sets.specs.Rest.{sub-has}
-use Rattle.optimum.specs.Rows.{stageSet, Row}
+use Rattle.optimum.specs.Rows.{stageSet, remaining, Row}
 use Rattle.staging.specs.Tables.{openIn, servable}
+use Rattle.staging.specs.Serving.{Serves, servable-is, is-servable, kept-together, together-kept}
 
 -- train i may be served in slot t
 abbrev pub InWindow : Yard → ℕ → ℕ → Type 0
@@ -66,20 +68,17 @@ module _ (y : Yard) where
           staged = a .slotted;
           passes = λ j l.
               let t = suc j in
-              both (subset (stageSet n row t) (openIn n (y .first) (y .last) t)) (leb (ones (stageSet n row t)) (y .tracks))
-              (of-true (eq-eqb _ _ (within-windows t (λ i k e. subst (λ x. InWindow y x i) e (a .windowed i k)))))
-              (le→leb (ones (stageSet n row t)) (y .tracks) (omega (arith, stage-ones t, a .room j l)));
+              is-servable y t (remaining n row t) (stageSet n row t)
+              (record {
+                inTime = within-windows t (λ i k e. subst (λ x. InWindow y x i) e (a .windowed i k));
+                room = omega (arith, stage-ones t, a .room j l);
+                whole = kept-together n (y .groups) row t (allowed-keeps y row h);
+              });
         }
 
     -- of a row's slot: its set is served
-    served : DayRow y row → (j : ℕ) → j < y .slots
-        → Sub (stageSet (y .trains) row (suc j)) (openIn (y .trains) (y .first) (y .last) (suc j)) × (load (y .trains) row (suc j) ≤ y .tracks)
-    served h j l =
-        let n = y .trains in
-        let s = stageSet n row (suc j) in
-        let o = openIn n (y .first) (y .last) (suc j) in
-        let (a, b) = both-of (subset s o) (leb (ones s) (y .tracks)) (h .passes j l) in
-        (eqb→eq _ _ a, omega (arith, stage-ones (suc j), leb→le (ones s) (y .tracks) b))
+    served : DayRow y row → (j : ℕ) → j < y .slots → Serves y (suc j) (stageSet (y .trains) row (suc j))
+    served h j l = servable-is y (suc j) (remaining (y .trains) row (suc j)) (stageSet (y .trains) row (suc j)) (h .passes j l)
 
     pub row-allowed : DayRow y row → T (allowed y row)
     row-allowed h =
@@ -89,10 +88,11 @@ module _ (y : Yard) where
           long = h .long;
           slotted = h .staged;
           windowed = λ i l. at i l (slotOf row i) refl;
-          room = λ j l. served h j l .1;
+          room = λ j l. omega (arith, stage-ones (suc j), served h j l .room);
         }))
+        (together-kept (y .trains) (y .groups) row (y .slots) (h .staged) (λ j l. served h j l .whole))
       where
         at : (i : ℕ) → i < y .trains → (t : ℕ) → slotOf row i ≡ t → InWindow y (slotOf row i) i
         at i l zero e = absurd (omega (arith, h .staged i l))
         at i l (suc j) e =
-            subst (λ x. InWindow y x i) (sym e) (windows-within (suc j) (served h j (omega (arith, h .staged i l)) .0) i l e)
+            subst (λ x. InWindow y x i) (sym e) (windows-within (suc j) (served h j (omega (arith, h .staged i l)) .inTime) i l e)

@@ -1,4 +1,5 @@
 pub mod Tables
+pub mod Serving
 pub mod Reachable
 pub mod AllowedRows
 pub mod CostBySlot

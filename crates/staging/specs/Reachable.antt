@@ -5,12 +5,11 @@ use mathlib.Core.Path.{_≡_, refl}
 use Prim.Native.Nat.{ℕ, suc, _+_, _-_, _*_, _≤_}
 use native.Mathlib.Omega.{arith}
 use lib.Count.{ones}
-use lib.Dec.{leb, leb→le}
-use Rattle.fold.specs.Test.{both-of}
-use Rattle.sets.specs.Subset.{Sub, subset, ones-rest}
+use Rattle.sets.specs.Subset.{Sub, ones-rest}
 use Rattle.model.specs.Model.{Yard}
 use Rattle.optimum.specs.Layers.{Closed}
-use Rattle.staging.specs.Tables.{openIn, servable}
+use Rattle.staging.specs.Tables.{servable}
+use Rattle.staging.specs.Serving.{servable-is}
 
 -- of N sets, the last of which holds all trains
 pub record Reachable (N tracks j r : ℕ) : Type 0 where
@@ -25,5 +24,4 @@ reachable-next {r = r} s h hs l = record { first = λ e. absurd (omega arith); e
 
 pub reachable-closed : (y : Yard) (N : ℕ) → Closed (servable y) (Reachable N (y .tracks))
 reachable-closed y N j r s h hs may =
-    let o = openIn (y .trains) (y .first) (y .last) (suc j) in
-    reachable-next s h hs (leb→le (ones s) (y .tracks) (both-of (subset s o) (leb (ones s) (y .tracks)) may .1))
+    reachable-next s h hs (servable-is y (suc j) r s may .room)

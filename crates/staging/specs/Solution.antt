@@ -1,14 +1,14 @@
--- Behind the loops over stages and sets, solved for what can remain of the day's trains: the value that stands for all trains is that of
--- the best plan, to which the choices lead; and it is below `inf` where an allowed row costs less than that.
+-- Behind the loops over stages and sets, solved for what can remain of the day's trains: where a value below `inf` stands for all trains, it
+-- is that of the best plan, to which the choices lead (`solution-best`); where none does, no row that costs less than `inf` is allowed
+-- (`solution-none`).
 -- Assumes nothing.
 use mathlib.Core.Path.{_≡_, ap, subst}
 use mathlib.Core.List.{List}
-use Prim.Native.Nat.{ℕ, _-_, _^_, _<_}
+use Prim.Native.Nat.{ℕ, _-_, _^_, _≤_, _<_}
 use native.Mathlib.Omega.{arith}
-use lib.Dec.{T}
 use lib.ListN.{getD}
 use Rattle.sets.specs.Rest.{full}
-use Rattle.model.specs.Model.{Yard, cost, allowed, Best}
+use Rattle.model.specs.Model.{Yard, cost, Best, NoRow}
 use Rattle.optimum.specs.Layers.{Closed, Solved}
 use Rattle.optimum.specs.Best.{optimum, optimum-lower}
 use Rattle.optimum.specs.Chosen.{rowIn, Leads, solved-value, solved-leads, solved-best}
@@ -38,7 +38,7 @@ module _ (y : Yard) {a₀ c₀ a c : List ℕ} {inf N : ℕ} (size : N ≡ 2 ^ y
     pub solution-best : Best y (rowIn c (y .trains) (y .slots) N)
     solution-best = best-plan y (rowIn c (y .trains) (y .slots) N) (solved-best (y .trains) size closed top solved some)
 
-  pub solution-some : (row : List ℕ) → T (allowed y row) → cost y row < inf → getD a (N - 1) 0 < inf
-  solution-some row h fits =
+  pub solution-none : ((row : List ℕ) → cost y row < inf) → inf ≤ getD a (N - 1) 0 → NoRow y
+  solution-none cheap missing row h =
       let o = allowed-row y row h in
-      omega (arith, value, optimum-lower (servable y) (stageKey y) inf (y .trains) (y .slots) row o, row-cost y o)
+      omega (arith, value, optimum-lower (servable y) (stageKey y) inf (y .trains) (y .slots) row o, row-cost y o, cheap row)

@@ -1,17 +1,17 @@
 -- The model as staged choices: at slot t, where the set r of trains remains, the set s is served. Which sets may be served, and what one
 -- costs: equation (1) by slots. With the tables over sets that the code fills.
 -- Assumes nothing.
-use mathlib.Core.Bool.{cond, _&&_}
+use mathlib.Core.Bool.{Bool, not, cond, _&&_}
 use mathlib.Core.List.{List}
 use Prim.Native.Nat.{ℕ, _+_, _-_, _*_}
 use lib.Bits.{bitAnd}
 use lib.Count.{ones}
 use lib.Dec.{leb, ltb}
 use lib.ListN.{getD}
-use Rattle.fold.specs.Fold.{sum, some}
+use Rattle.fold.specs.Fold.{sum, some, each}
 use Rattle.sets.specs.Mask.{has, mask}
 use Rattle.sets.specs.Subset.{subset}
-use Rattle.model.specs.Model.{Yard, received, supplies, inTime}
+use Rattle.model.specs.Model.{Yard, received, supplies, inTime, grouped}
 use Rattle.optimum.specs.Schedules.{Test, Contribution}
 
 -- ---- of n trains that receive a i j boxes from each other
@@ -28,11 +28,16 @@ fromOutside n a s = sum n λ i. cond (has s i) (sum n λ j. cond (has s j) 0 (a 
 unfoldable pub openIn : ℕ → List ℕ → List ℕ → ℕ → ℕ
 openIn n first last t = mask n λ i. inTime first last i t
 
+-- s has of each group all members or none: where i is in s and j of the same group, j is in s
+unfoldable pub together : ℕ → List ℕ → ℕ → Bool
+together n groups s = each n λ i. each n λ j. not (grouped groups i j && has s i && not (has s j))
+
 -- ---- the stages of a day
 
--- s may be served in slot t: its windows hold t (12), and it has at most one train to a track (3)
-abbrev pub servable : Yard → Test
-servable y t r s = subset s (openIn (y .trains) (y .first) (y .last) t) && leb (ones s) (y .tracks)
+-- s may be served in slot t: its windows hold t (12), it has at most one train to a track (3), and parts no group (order 4 of 02)
+unfoldable pub servable : Yard → Test
+servable y t r s =
+    subset s (openIn (y .trains) (y .first) (y .last) t) && leb (ones s) (y .tracks) && together (y .trains) (y .groups) s
 
 -- the trains of s whose suppliers are served later revisit, (4); the boxes that s receives from outside are split, (5)
 abbrev pub lateTrains : Yard → ℕ → ℕ → ℕ

@@ -7,8 +7,8 @@ use mathlib.Core.Logic.{_⊎_, inl, inr, _≢_}
 use Prim.Native.Nat.{ℕ, _+_, _-_, _≤_, _<_}
 use native.Mathlib.Nat.{le-antisymm}
 use native.Mathlib.Omega.{arith}
-use lib.ListN.{length, set, drop}
-use lib.Seq.{drop-drop, getD-set-same, getD-set-other}
+use lib.ListN.{length, getD, set, drop}
+use lib.Seq.{drop-drop, getD-drop, getD-set-same, getD-set-other}
 use Rattle.fold.specs.Counting.{same-or, le-or-lt}
 use Rattle.optimum.specs.Workspace.{at, Kept, kept-here, kept-then, kept-set, set-at}
 
@@ -45,6 +45,13 @@ module _ {f : ℕ → ℕ} {N : ℕ} {a₀ a : List ℕ} where
 
   pub filled-since : {M : ℕ} {b : List ℕ} → Filled f N a₀ a → N ≤ M → Filled f M a b → Filled f M a₀ b
   filled-since {M} h l g = record { kept = kept-then (kept-more M (h .kept) l) (g .kept); all = g .all }
+
+-- a loop that reads each word before it writes it: the next word is as it was
+pub unread : {N : ℕ} {a₀ a : List ℕ} → Kept N a₀ a → at a N ≡ at a₀ N
+unread {N} {a₀} {a} h =
+    let e : N + 0 ≡ N = omega arith in
+    let here : (b : List ℕ) → getD (drop N b) 0 0 ≡ at b N = λ b. getD-drop N b 0 0 ∙ ap (λ (x : ℕ). getD b x 0) e in
+    sym (here a) ∙ ap (λ (b : List ℕ). getD b 0 0) (h .rest) ∙ here a₀
 
 -- ---- words added behind the first `base` ones, which stay as they are: the added word y is g y
 

@@ -66,7 +66,7 @@ module _ (before : List ℕ) (room : 3 ≤ length before) where
   unfolding numbersAfter
   numbers-given o = rw (le-leb 3 (length before) room)
 
-  -- 1 to 7, 10 to 14 carry one value
+  -- all but 9 carry one value
   pub numbers-one : (k value : ℕ) → numbersAfter (refuses k (value ∷ [])) before ≡ value ∷ 0 ∷ 0 ∷ drop 3 before
   unfolding numbersAfter
   numbers-one k value = rw (le-leb 3 (length before) room)

@@ -4,6 +4,7 @@
 use mathlib.Core.Path.{_≡_, refl, sym, ap, _∙_, subst}
 use mathlib.Core.Bool.{Bool, true, false, not}
 use mathlib.Core.List.{List, [], _∷_}
+use mathlib.Core.Logic.{_⊎_, inl, inr}
 use Prim.Native.Nat.{ℕ, suc, _+_, _≤_, _<_}
 use native.Mathlib.Numerals.{add-one}
 use native.Mathlib.Omega.{arith}
@@ -13,7 +14,9 @@ use borrow.Author.Tests.{eq-eqb, ne-eqb}
 use Rattle.fold.specs.Fold.{each, each-at, each-i, lowest, each-lowest, lowest-each}
 use Rattle.model.specs.Model.{Yard, slotOf, firstSlot, lastSlot, Outcome, outcome, inSlots, inTime, inWindow, roomy, allowed}
 use Rattle.model.specs.Rows
-use Rattle.model.specs.Rows.{windowed, fitting-tests, tests-fitting, allowed-fits, fits-allowed, both-le, le-both}
+use Rattle.model.specs.Rows.{windowed, fitting-tests, tests-fitting, allowed-fits, allowed-keeps, fits-allowed, both-le, le-both}
+use Rattle.model.specs.Groups.{GroupsUpTo, parted-parts, unparted-keeps}
+use Rattle.wagon_sets.specs.Laws.{parts}
 use Rattle.day.specs.Sound.{dayFrom, sound}
 use Rattle.day.specs.SoundLaws.{sound-is}
 use Rattle.day.specs.Answer.{gives, refuses}
@@ -34,23 +37,23 @@ module _ (l : Limits) (y : Yard) (row : List ℕ) where
   unfolding valued
   says-unsound s = simp s
 
-  pub says-sound : sound l y ≡ true → valuedRow y row ≡ valued l y row
+  pub says-sound : sound l y ≡ true → valuedRow l y row ≡ valued l y row
   unfolding valued valuedRow
   says-sound s = simp s
 
 -- train numbers have no part in it
-pub any-numbers : (h : Head) (numbers others first last : List ℕ) (width : ℕ) (boxes row : List ℕ)
-    → valuedRow (dayFrom h numbers first last width boxes) row ≡ valuedRow (dayFrom h others first last width boxes) row
+pub any-numbers : (l : Limits) (h : Head) (numbers others first last groups : List ℕ) (width : ℕ) (boxes row : List ℕ)
+    → valuedRow l (dayFrom h numbers first last groups width boxes) row ≡ valuedRow l (dayFrom h others first last groups width boxes) row
 unfolding valuedRow
-any-numbers h numbers others first last width boxes row = refl
+any-numbers l h numbers others first last groups width boxes row = refl
 
-module _ (y : Yard) (row : List ℕ) where
-  pub says-length : (length row ≡ y .trains → ⊥) → refuses 11 (0 ∷ []) ≡ valuedRow y row
+module _ (l : Limits) (y : Yard) (row : List ℕ) where
+  pub says-length : (length row ≡ y .trains → ⊥) → refuses 11 (0 ∷ []) ≡ valuedRow l y row
   unfolding valuedRow
   says-length h = simp (ne-eqb (length row) (y .trains) h)
 
   module _ (long : length row ≡ y .trains) where
-    pub says-stray : (i : ℕ) → i ≡ lowest (y .trains) (strays (y .first) (y .last) row) → i < y .trains → refuses 12 ((i + 1) ∷ []) ≡ valuedRow y row
+    pub says-stray : (i : ℕ) → i ≡ lowest (y .trains) (strays (y .first) (y .last) row) → i < y .trains → refuses 12 ((i + 1) ∷ []) ≡ valuedRow l y row
     unfolding valuedRow strays
     says-stray i e h =
         let f : each (y .trains) (inWindow (y .first) (y .last) row) ≡ false =
@@ -62,28 +65,40 @@ module _ (y : Yard) (row : List ℕ) where
       unfolding strays
       within = each-lowest (y .trains) (inWindow (y .first) (y .last) row) inside
 
-      pub says-overfull : (t : ℕ) → t ≡ lowest (y .slots) (overfull (y .trains) (y .tracks) row) → t < y .slots → refuses 13 ((t + 1) ∷ []) ≡ valuedRow y row
+      pub says-overfull : (t : ℕ) → t ≡ lowest (y .slots) (overfull (y .trains) (y .tracks) row) → t < y .slots → refuses 13 ((t + 1) ∷ []) ≡ valuedRow l y row
       unfolding valuedRow overfull
       says-overfull t e h =
           let f = lowest-each (y .slots) (λ t. roomy (y .trains) (y .tracks) row (suc t)) (subst (λ k. k < y .slots) e h) in
           simp (eq-eqb (length row) (y .trains) long, within, f, ← e, add-one)
 
-      pub says-values : y .slots ≤ lowest (y .slots) (overfull (y .trains) (y .tracks) row) → gives (outcome y row) ≡ valuedRow y row
-      unfolding valuedRow overfull
-      says-values h =
-          let f = each-lowest (y .slots) (λ t. roomy (y .trains) (y .tracks) row (suc t)) h in
-          simp (eq-eqb (length row) (y .trains) long, within, f)
+      module _ (room : y .slots ≤ lowest (y .slots) (overfull (y .trains) (y .tracks) row)) where
+        spacious : each (y .slots) (λ t. roomy (y .trains) (y .tracks) row (suc t)) ≡ true
+        unfolding overfull
+        spacious = each-lowest (y .slots) (λ t. roomy (y .trains) (y .tracks) row (suc t)) room
 
--- ---- a sound day gets 11, 12 or 13 and no other refusal
+        pub says-parted : (g : ℕ) → g ≡ lowest (l .groups) (parts (y .trains) (y .groups) row) → g < l .groups → refuses 17 ((g + 1) ∷ []) ≡ valuedRow l y row
+        unfolding valuedRow
+        says-parted g e h =
+            let f = parted-parts (y .trains) (y .groups) row (l .groups) (subst (λ k. k < l .groups) e h) in
+            simp (eq-eqb (length row) (y .trains) long, within, spacious, f, ← e, add-one)
+
+        pub says-values : GroupsUpTo (l .groups) (y .trains) (y .groups) → l .groups ≤ lowest (l .groups) (parts (y .trains) (y .groups) row)
+            → gives (outcome y row) ≡ valuedRow l y row
+        unfolding valuedRow
+        says-values low h =
+            let f = unparted-keeps (y .trains) (y .groups) row (l .groups) low h in
+            simp (eq-eqb (length row) (y .trains) long, within, spacious, f)
+
+-- ---- a sound day gets 11, 12, 13 or 17 and no other refusal
 
 abbrev pub SlotRefusal : ℕ → List ℕ → Type 0
-SlotRefusal k carries = (11 ≤ k) × (k ≤ 13)
+SlotRefusal k carries = ((11 ≤ k) × (k ≤ 13)) ⊎ (k ≡ 17)
 
 pub valued-only : (l : Limits) (y : Yard) (row : List ℕ) → T (sound l y) → Only SlotRefusal (valued l y row)
 unfolding valued
 valued-only l y row s =
-    only-after SlotRefusal (sound l y) 8 (0 ∷ []) (slotChecks y row) (gives (outcome y row)) s
-    ((omega arith, omega arith), ((omega arith, omega arith), ((omega arith, omega arith), tt))) tt
+    only-after SlotRefusal (sound l y) 8 (0 ∷ []) (slotChecks l y row) (gives (outcome y row)) s
+    (inl (omega arith, omega arith), (inl (omega arith, omega arith), (inl (omega arith, omega arith), (inr refl, tt)))) tt
 
 -- ---- demand 2: each allowed row of a sound day has the model's numbers, and no other row has any
 
@@ -92,13 +107,13 @@ module _ (l : Limits) (y : Yard) (row : List ℕ) where
   unfolding valued
   valued-allowed s a =
       let (long, slotted, inside, room) = fitting-tests y row (allowed-fits y row a) in
-      checked-holds (rowChecks l y row) (gives (outcome y row)) (s, (long, (inside, (room, tt))))
+      checked-holds (rowChecks l y row) (gives (outcome y row)) (s, (long, (inside, (room, (allowed-keeps y row a, tt)))))
 
   pub allowed-valued : (o : Outcome) → valued l y row ≡ gives o → T (sound l y) × T (allowed y row) × (outcome y row ≡ o)
   unfolding valued
   allowed-valued o e =
       let (h, g) = checked-gives (rowChecks l y row) (gives (outcome y row)) o e in
-      (h .0, fits-allowed y row (tests-fitting y row (h .1 .0) (slotted (h .0) (h .1 .1 .0)) (h .1 .1 .0) (h .1 .1 .1 .0)), cc)
+      (h .0, fits-allowed y row (tests-fitting y row (h .1 .0) (slotted (h .0) (h .1 .1 .0)) (h .1 .1 .0) (h .1 .1 .1 .0)) (h .1 .1 .1 .1 .0), cc)
     where
       -- the windows of a sound day lie in its slots
       slotted : T (sound l y) → T (windowed y row) → T (Rows.slotted y row)

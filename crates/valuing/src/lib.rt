@@ -1,5 +1,5 @@
 // Valuing a row of slots (document 01): the number of revisits, the number of split moves, and their weighted sum, or refusal 8, 11,
-// 12 or 13.
+// 12, 13 or 17.
 //
 // Proved: for every record and every row `value_assignment` answers what `valued` of specs/Valuing.antt says. The functions below it
 // take slices, a width and numbers, so that records of other sizes use them too. Assumes nothing.
@@ -9,11 +9,13 @@ ghost use Prim.Native.Nat.{_≤_, _<_, _*_};
 ghost use lib.ListN.{length};
 ghost use Rattle.fold.specs.Fold.{lowest};
 ghost use Rattle.model.specs.Model.{inWindow, roomy};
+ghost use Rattle.model.specs.Groups.{GroupsUpTo};
 ghost use Rattle.day.specs.Sound.{dayLimits, dayFrom, yard};
 ghost use Rattle.valuing.specs.Valuing.{strays, overfull, answer, valuedRow, valued};
 use counting::Value;
 use day::Day;
 use day::Head;
+use day::Limits;
 use day::Refusal;
 
 pub enum Valued {
@@ -63,18 +65,20 @@ fn first_overfull(row: &[u8], n: usize, tracks: u32, slots: u8) -> u8
     slots
 }
 
-// Values a row on a sound day that is given by its head, the columns of its windows and its boxes: 11, 12 with the lowest such position,
-// 13 with the lowest such slot, else the three numbers. (Train numbers have no part in it.)
+// Values a row on a sound day that is given by its head, the columns of its windows and groups and its boxes: 11, 12 with the lowest such
+// position, 13 with the lowest such slot, 17 with the lowest such group, else the three numbers. (Train numbers have no part in it.)
 pub fn value_row(
+    l: Limits,
     head: Head,
     first: &[u8],
     last: &[u8],
-    width: usize,
+    groups: &[u8],
     boxes: &[u8],
     row: &[u8],
 ) -> Valued
-    requires { ⌜ (head .trains ≤ 64) × ((head .trains ≤ width) × ((width * width ≤ length (now boxes)) × ((head .trains ≤ length (now first)) × (head .trains ≤ length (now last))))) ⌝ }
-    ensures { λ r. ⌜ answer r ≡ valuedRow (dayFrom head [] (now (first .entry)) (now (last .entry)) width (now (boxes .entry))) (now (row .entry)) ⌝ }
+    requires { ⌜ (head .trains ≤ 64) × ((head .trains ≤ l .trains) × ((l .trains * l .trains ≤ length (now boxes)) × ((head .trains ≤ length (now first)) × ((head .trains ≤ length (now last)) × (head .trains ≤ length (now groups)))))) ⌝ }
+    requires { ⌜ GroupsUpTo (l .groups) (head .trains) (now groups) ⌝ }
+    ensures { λ r. ⌜ answer r ≡ valuedRow l (dayFrom head [] (now (first .entry)) (now (last .entry)) (now (groups .entry)) (l .trains) (now (boxes .entry))) (now (row .entry)) ⌝ }
 {
     let n = head.trains;
     if row.len() != n {
@@ -88,11 +92,15 @@ pub fn value_row(
     if full < head.slots {
         return Valued::Refused(Refusal::SlotOverfull(full + 1));
     }
-    Valued::Values(counting::value_slots(boxes, width, row, n, head.revisit, head.split))
+    let parted = wagon_sets::first_parted(groups, row, n, l.groups);
+    if parted < l.groups {
+        return Valued::Refused(Refusal::GroupParted(parted + 1));
+    }
+    Valued::Values(counting::value_slots(boxes, l.trains, row, n, head.revisit, head.split))
 }
 
-// Values a row of slots, 01's valuing: the three numbers, or refusal 8, 11, 12 with the lowest such position, or 13 with the lowest
-// such slot, checked in this order. For every record and every row; no lent byte changes.
+// Values a row of slots, 01's valuing: the three numbers, or refusal 8, 11, 12 with the lowest such position, 13 with the lowest such
+// slot, or 17 with the lowest parted group, checked in this order. For every record and every row; no lent byte changes.
 pub fn value_assignment(day: Day, row: &[u8]) -> Valued
     ensures { λ r. ⌜ answer r ≡ valued dayLimits (yard day) (now (row .entry)) ⌝ }
 {
@@ -101,6 +109,15 @@ pub fn value_assignment(day: Day, row: &[u8]) -> Valued
     }
     let first = day.first;
     let last = day.last;
+    let groups = day.groups;
     let boxes = day.boxes;
-    value_row(day::head_of(day), &first, &last, 12, &boxes, row)
+    value_row(
+        day::day_limits(),
+        day::head_of(day),
+        &first,
+        &last,
+        &groups,
+        &boxes,
+        row,
+    )
 }

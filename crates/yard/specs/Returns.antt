@@ -1,15 +1,15 @@
 -- What the functions of include/yard.h can return, as the header says. With room for three numbers:
---   check-returns     yard_check: 0 to 7;
---   value-returns     yard_value: 0 to 7 or 11 to 13, never 8;
---   compare-returns   the comparing functions: 0 to 7, 9 or 14, never 8 and never 10;
---   plan-returns      yard_plan, lent a row of 12 bytes: 0 to 7 or 9, never 8 and never 10.
+--   check-returns     yard_check: 0 to 7 or 15;
+--   value-returns     yard_value: 0 to 7, 15, 11 to 13 or 17, never 8;
+--   compare-returns   the comparing functions: 0 to 7, 15, 9, 16 or 14, never 8 and never 10;
+--   plan-returns      yard_plan, lent a row of 12 bytes: 0 to 7, 15, 9 or 16, never 8 and never 10.
 -- And without room for three numbers:
 --   no-numbers        all but yard_check: 10, whatever the text.
 -- What they return means, on the day y that a text reads to, and with room for three numbers:
 --   check-line        yard_check tells the line of the refusal, and 0 where there is none;
 --   value-exactly     yard_value gives numbers exactly where the row is allowed, and they are the model's;
 --   compare-is        the comparing functions answer what comparing the day does (`saves` of baselines says what that means);
---   plan-exactly      yard_plan, lent a row of 12 bytes, gives a plan exactly where an allowed row exists: `plans-best` and `plans-nine` of
+--   plan-exactly      yard_plan, lent a row of 12 bytes, gives a plan exactly where an allowed row exists: `plans-best` and `plans-none` of
 --                     text_plan say which, and what stands in the row.
 -- Assumes nothing.
 use mathlib.Core.Path.{_≡_, refl, sym, ap, subst}
@@ -29,7 +29,7 @@ use Rattle.day.specs.Sound.{dayLimits, sound}
 use Rattle.day.specs.SoundLaws.{Sound, sound-is}
 use Rattle.dayfile.specs.Reading.{readDay}
 use Rattle.dayfile.specs.RoundTrip.{read-sound}
-use Rattle.dayfile.specs.Refused.{Lined, read-lined}
+use Rattle.dayfile.specs.Refused.{FileRefusal, Lined, read-lined}
 use Rattle.valuing.specs.Valuing.{valued}
 use Rattle.valuing.specs.Laws.{valued-only, valued-allowed, allowed-valued}
 use Rattle.planning.specs.Planning.{costArea, choiceArea, planned}
@@ -43,47 +43,55 @@ use Rattle.text_plan.specs.Means.{plans-best}
 use Rattle.text_value.specs.TextValue.{line, valueText}
 use Rattle.text_savings.specs.TextSavings.{compareText}
 
--- 1 to 7, or a number of the call's own
+-- what reading a text returns: 0, or its refusal
+abbrev pub OfReading : ℕ → Type 0
+OfReading k = (k ≤ 7) ⊎ (k ≡ 15)
+
+of-reading : (k : ℕ) → FileRefusal k → OfReading k
+of-reading k (inl h) = inl (h .1)
+of-reading k (inr e) = inr e
+
+-- a refusal of reading, or a number of the call's own
 abbrev Or : (ℕ → Type 0) → ℕ → List ℕ → Type 0
-Or own k carries = (k ≤ 7) ⊎ own k
+Or own k carries = OfReading k ⊎ own k
 
 -- the number returned: 0 where something is given
-returned : {X : Type 0} (own : ℕ → Type 0) (a : Answer X) → Only (Or own) a → (code a ≤ 7) ⊎ own (code a)
-returned own (gives x) h = inl zero-le
+returned : {X : Type 0} (own : ℕ → Type 0) (a : Answer X) → Only (Or own) a → OfReading (code a) ⊎ own (code a)
+returned own (gives x) h = inl (inl zero-le)
 returned own (refuses k carries) h = h
 
 module _ (text : List ℕ) where
-  pub check-returns : code (readDay dayLimits text) ≤ 7
+  pub check-returns : OfReading (code (readDay dayLimits text))
   check-returns = go (readDay dayLimits text) (read-lined dayLimits text)
     where
-      go : (a : Answer Yard) → Only Lined a → code a ≤ 7
-      go (gives y) h = zero-le
-      go (refuses k carries) h = h .1 .0
+      go : (a : Answer Yard) → Only Lined a → OfReading (code a)
+      go (gives y) h = inl zero-le
+      go (refuses k carries) h = of-reading k (h .0)
 
   -- the days that are read are sound, so a call on them never answers 8
   for-sound : {X : Type 0} (own : ℕ → Type 0) (size : ℕ) (f : Yard → Answer X) → 3 ≤ size → ((y : Yard) → T (sound dayLimits y) → Only (λ k carries. own k) (f y))
-      → (code (forDay dayLimits text size f) ≤ 7) ⊎ own (code (forDay dayLimits text size f))
+      → OfReading (code (forDay dayLimits text size f)) ⊎ own (code (forDay dayLimits text size f))
   for-sound own size f h g =
       returned own (forDay dayLimits text size f)
       (subst (λ (a : Answer Yard). Only (Or own) (onGiven a f)) (sym (with-room dayLimits text size (le-leb 3 size h) refl))
-      (only-given (Or own) (readDay dayLimits text) f (only-wider Lined (Or own) (readDay dayLimits text) (λ k carries q. inl (q .1 .0)) (read-lined dayLimits text))
+      (only-given (Or own) (readDay dayLimits text) f (only-wider Lined (Or own) (readDay dayLimits text) (λ k carries q. inl (of-reading k (q .0))) (read-lined dayLimits text))
       λ y e. only-wider (λ k carries. own k) (Or own) (f y) (λ k carries q. inr q) (g y (read-sound dayLimits text y e))))
 
   module _ (size : ℕ) (room : 3 ≤ size) where
-    pub value-returns : (row : List ℕ) → let k = code (valueText dayLimits text row size) in (k ≤ 7) ⊎ ((11 ≤ k) × (k ≤ 13))
+    pub value-returns : (row : List ℕ) → let k = code (valueText dayLimits text row size) in OfReading k ⊎ (((11 ≤ k) × (k ≤ 13)) ⊎ (k ≡ 17))
     unfolding valueText
-    value-returns row = for-sound (λ k. (11 ≤ k) × (k ≤ 13)) size (λ y. valued dayLimits y row) room λ y s. valued-only dayLimits y row s
+    value-returns row = for-sound (λ k. ((11 ≤ k) × (k ≤ 13)) ⊎ (k ≡ 17)) size (λ y. valued dayLimits y row) room λ y s. valued-only dayLimits y row s
 
-    pub compare-returns : (procedure : Yard → List ℕ) → let k = code (compareText procedure dayLimits text size) in (k ≤ 7) ⊎ ((k ≡ 9) ⊎ (k ≡ 14))
+    pub compare-returns : (procedure : Yard → List ℕ) → let k = code (compareText procedure dayLimits text size) in OfReading k ⊎ (((k ≡ 9) ⊎ (k ≡ 16)) ⊎ (k ≡ 14))
     unfolding compareText
     compare-returns procedure =
-        for-sound (λ k. (k ≡ 9) ⊎ (k ≡ 14)) size (λ y. compared dayLimits y (procedure y) costArea choiceArea) room
+        for-sound (λ k. ((k ≡ 9) ⊎ (k ≡ 16)) ⊎ (k ≡ 14)) size (λ y. compared dayLimits y (procedure y) costArea choiceArea) room
         λ y s. compared-only dayLimits y costArea choiceArea (procedure y) (areas-suffice y (y .trains) s (omega arith))
 
-    pub plan-returns : (bytes : ℕ) → 12 ≤ bytes → let k = code (planFor dayLimits text costArea choiceArea bytes size) in (k ≤ 7) ⊎ (k ≡ 9)
+    pub plan-returns : (bytes : ℕ) → 12 ≤ bytes → let k = code (planFor dayLimits text costArea choiceArea bytes size) in OfReading k ⊎ ((k ≡ 9) ⊎ (k ≡ 16))
     unfolding planFor
     plan-returns bytes long =
-        for-sound (λ k. k ≡ 9) size (λ y. planned dayLimits y costArea choiceArea bytes) room
+        for-sound (λ k. (k ≡ 9) ⊎ (k ≡ 16)) size (λ y. planned dayLimits y costArea choiceArea bytes) room
         λ y s. planned-only dayLimits y costArea choiceArea bytes (areas-suffice y bytes s (omega (arith, sound-is dayLimits y s .trains .1)))
 
   -- ---- what is returned means

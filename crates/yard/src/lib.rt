@@ -25,7 +25,7 @@ use output::Wrote;
 pub extern "C" fn yard_version() -> u64
     ensures { λ r. ⌜ r ≡ version ⌝ }
 {
-    1
+    2
 }
 
 // What yard-plan prints for a text, in the first bytes of `out`, and their count; or 10, with a count of 0.

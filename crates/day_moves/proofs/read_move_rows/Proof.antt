@@ -12,7 +12,7 @@ use mir.Val.{Fits}
 use Rattle.dayfile.specs.Reading.{position, moveChecks, readRow}
 use Rattle.day_rows.specs.Steps.{RowTo}
 use Rattle.day_moves.specs.Moves.{MovesSoFar, MoveRow, move-row, moves-start, moves-refused, moves-done, moves-next}
-use Rattle.day_rows.proofs.Tags.{move-refusal}
+use Rattle.day_rows.proofs.Tags.{ended}
 use Rattle.day_moves.proofs.read_move_rows.Statement.{statement}
 use Rattle.day_moves.proofs.read_move_rows.Tie as tie
 
@@ -26,26 +26,26 @@ limit : (c : tie.Start Inv-loop μ-loop) → Fits w8 (c .args .l .boxes)
 limit c = search needs
 
 -- where the turn of the loop and the function begin, from where a row was read; and that from where its boxes were stored
-abbrev turn : tie.After-known-told Inv-loop μ-loop → tie.At-loop Inv-loop μ-loop
-turn c = c .before .before .before .before .before
+abbrev turn : tie.After-known-told2 Inv-loop μ-loop → tie.At-loop Inv-loop μ-loop
+turn c = c .before .before .before .before
 
-abbrev start : tie.After-known-told Inv-loop μ-loop → tie.Start Inv-loop μ-loop
+abbrev start : tie.After-known-told2 Inv-loop μ-loop → tie.Start Inv-loop μ-loop
 start c = turn c .before .before .before .before
 
-abbrev row : tie.After-slice-known2 Inv-loop μ-loop → tie.After-known-told Inv-loop μ-loop
+abbrev row : tie.After-slice-known2 Inv-loop μ-loop → tie.After-known-told2 Inv-loop μ-loop
 row c = c .before .before .before .before .before .before .before
 
 -- past the match a move's row was read
-said : (c : tie.After-known-told Inv-loop μ-loop)
+said : (c : tie.After-known-told2 Inv-loop μ-loop)
     → let a = start c .args in
     let v = turn c .loop in
-    let r = c .before .row .given .0 in
+    let r = c .before .a .given .0 in
     RowTo 2 (a .text .now) (readRow 2 (v .line) (moveChecks (a .l) (take (a .n) (a .numbers .now)) (v .to ∷ v .from ∷ 0 ∷ []) (v .line)) (drop (v .p) (a .text .now))) (r .0) (r .1 .0) (r .1 .1 .0) (r .1 .1 .1 .0) (r .1 .1 .1 .1 .0) (r .1 .1 .1 .1 .1 .0)
-said c = rw (c .before .row .given .1) at (c .before .before .before .before .read-move .ensures)
+said c = rw (c .before .a .given .1) at (c .before .before .before .read-move .ensures)
 
-facts : (c : tie.After-known-told Inv-loop μ-loop)
+facts : (c : tie.After-known-told2 Inv-loop μ-loop)
     → let a = start c .args in
-    let r = c .before .row .given .0 in
+    let r = c .before .a .given .0 in
     MoveRow (a .l) (take (a .n) (a .numbers .now)) (r .0) (r .1 .0) (r .1 .1 .0) (turn c .loop .p) (r .1 .1 .1 .1 .1 .0)
 facts c = move-row _ _ (turn c .loop .to ∷ turn c .loop .from ∷ 0 ∷ []) _ _ _ (turn c .loop .inv .0 .inside) (said c)
 
@@ -57,7 +57,7 @@ put-at table width put to from boxes = cc
 stored : (c : tie.After-slice-known2 Inv-loop μ-loop)
     → let a = start (row c) .args in
     let numbers = take (a .n) (a .numbers .now) in
-    let r = row c .before .row .given .0 in
+    let r = row c .before .a .given .0 in
     c .before .before .put-cell .last .0 ≡ set (turn (row c) .loop .boxes) (position numbers (r .0) * a .width + position numbers (r .1 .0)) (r .1 .1 .0)
 stored c = put-at (turn (row c) .loop .boxes) (start (row c) .args .width) (c .before .before .put-cell .ensures) (c .before .before .before .before .before .before .position-of .ensures .0) (c .before .before .before .before .before .position-of2 .ensures .0) (c .before .before .before .narrow .ensures)
 
@@ -67,28 +67,26 @@ loop-holds c = (moves-start _ _ _ _ _ _ _ (c .before .before .before .pre .0), r
 read-move-requires : tie.Need-read-move-requires Inv-loop μ-loop
 read-move-requires c κs = search needs
 
-enum-told : tie.Need-enum-told Inv-loop μ-loop
-enum-told c = search needs
-
 same-length : tie.Need-same-length Inv-loop μ-loop
 same-length c = search needs
 
 returns : tie.Need-returns Inv-loop μ-loop
-returns c = moves-done _ _ _ _ _ _ (c .before .before .before .loop .inv .0) (rw (c .enum-told .given .1) at (c .before .before .read-move .ensures))
+returns c = moves-done _ _ _ _ _ _ (c .before .before .loop .inv .0) (ended 2 _ _ _ (c .before .read-move .result) (c .match .keys1) (c .before .read-move .ensures))
 
-enum-known-row : tie.Need-enum-known-row Inv-loop μ-loop
-enum-known-row c = search needs
-
-refusal-of-requires : tie.Need-refusal-of-requires Inv-loop μ-loop
-refusal-of-requires c κs = search needs
+enum-known-refusal : tie.Need-enum-known-refusal Inv-loop μ-loop
+enum-known-refusal c = search needs
 
 same-length-2 : tie.Need-same-length-2 Inv-loop μ-loop
 same-length-2 c = search needs
 
 returns-2 : tie.Need-returns-2 Inv-loop μ-loop
 returns-2 c =
-    let (is, more) = move-refusal _ _ _ _ _ (c .before .before .before .read-move .result) (c .before .before .match .keys2) (c .before .match2 .keys2) (c .before .before .before .read-move .ensures) (c .refusal-of .ensures) in
-    moves-refused _ _ _ _ _ _ (c .before .before .before .before .loop .inv .0) (c .refusal-of .result) is more
+    let x = c .before .refusal .given in
+    let (is, more) = rw (x .1) at (c .before .before .before .read-move .ensures) in
+    moves-refused _ _ _ _ _ _ (c .before .before .before .before .loop .inv .0) (x .0 .0) is more
+
+enum-known-a : tie.Need-enum-known-a Inv-loop μ-loop
+enum-known-a c = search needs
 
 position-of-requires : tie.Need-position-of-requires Inv-loop μ-loop
 position-of-requires c κs = search needs
@@ -113,7 +111,7 @@ add-line : tie.Need-add-line Inv-loop μ-loop
 add-line c =
     let v = turn (row c) .loop in
     let s = start (row c) in
-    omega (arith, v .inv .0 .lines, v .inv .0 .inside, s .pre .1 .0, s .good .1 .0)
+    omega (arith, v .inv .0 .lineIs, v .inv .0 .few, v .inv .0 .inside, s .pre .1 .0, s .good .1 .0)
 
 loop-less : tie.Need-loop-less Inv-loop μ-loop
 loop-less c = omega (arith, facts (row c) .further, said (row c) .inside)
@@ -129,13 +127,12 @@ read-move-rows-spec =
     μ-loop
     loop-holds
     read-move-requires
-    enum-told
     same-length
     returns
-    enum-known-row
-    refusal-of-requires
+    enum-known-refusal
     same-length-2
     returns-2
+    enum-known-a
     position-of-requires
     position-of-requires-2
     narrow-requires

@@ -32,13 +32,6 @@ read-names-requires c κs = search needs
 enum-known-names : tie.Need-enum-known-names
 enum-known-names c = search needs
 
-enum-told : tie.Need-enum-told
-enum-told c = search needs
-
-returns : tie.Need-returns
-unfolding moveNames
-returns c = rw (c .enum-told .given .1) (section-stops _ _ (c .enum-told .given .0 .0) (rw (c .enum-told .given .1) at (c .before .before .read-names .ensures)))
-
 add-read-move-rows : tie.Need-add-read-move-rows
 add-read-move-rows c = search needs
 
@@ -48,13 +41,20 @@ read-move-rows-requires c κs =
     let p = start (w .before .before) .pre in
     (names w .1, (omega (arith, p .0), p .1))
 
+enum-known-names-2 : tie.Need-enum-known-names-2
+enum-known-names-2 c = search needs
+
 same-length : tie.Need-same-length
 same-length c = search needs
 
-returns-2 : tie.Need-returns-2
-returns-2 c =
+returns : tie.Need-returns
+returns c =
     let f = c .before .before in
     rw (names (f .before .before .before) .0) (f .read-move-rows .ensures)
+
+returns-2 : tie.Need-returns-2
+unfolding moveNames
+returns-2 c = section-stops _ _ (c .before .names2 .given .0 .0) (rw (c .before .names2 .given .1) at (c .before .before .before .read-names .ensures))
 
 pub read-moves-spec : {M : Type 1} → statement M
 read-moves-spec =
@@ -63,9 +63,9 @@ read-moves-spec =
     slice-aggregate-read-names
     read-names-requires
     enum-known-names
-    enum-told
-    returns
     add-read-move-rows
     read-move-rows-requires
+    enum-known-names-2
     same-length
+    returns
     returns-2)

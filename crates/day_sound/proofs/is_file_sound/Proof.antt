@@ -18,24 +18,33 @@ positions-sound-requires c κs = search needs
 boxes-sound-requires : tie.Need-boxes-sound-requires
 boxes-sound-requires c κs = search needs
 
+groups-sound-requires : tie.Need-groups-sound-requires
+groups-sound-requires c κs = search needs
+
+-- the start
+abbrev start : tie.After-is-head-sound → tie.Start
+start c = c .before .before .before .before .before .before
+
 returns : tie.Need-returns
 unfolding sound shaped
 returns c =
-    let s = c .before .before .before .before .before .before .before in
+    let s = start (c .before .before .before) in
     let a = s .args in
     let n = a .l .trains in
     rw (
-      c .before .before .is-head-sound .ensures,
-      c .before .positions-sound .ensures,
-      c .boxes-sound .ensures,
+      c .before .before .before .is-head-sound .ensures,
+      c .before .before .positions-sound .ensures,
+      c .before .boxes-sound .ensures,
+      c .groups-sound .ensures,
       eq-eqb n n refl,
       eq-eqb (length (a .numbers .now)) n (s .pre .0),
       eq-eqb (length (a .first .now)) n (s .pre .1 .0),
       eq-eqb (length (a .last .now)) n (s .pre .1 .1 .0),
-      eq-eqb (length (a .boxes .now)) (n * n) (s .pre .1 .1 .1),
+      eq-eqb (length (a .groups .now)) n (s .pre .1 .1 .1 .0),
+      eq-eqb (length (a .boxes .now)) (n * n) (s .pre .1 .1 .1 .1),
     )
 
 pub is-file-sound-spec : {M : Type 1} → statement M
 is-file-sound-spec =
     tie.close
-    (tie.spec is-head-sound-requires positions-sound-requires boxes-sound-requires returns)
+    (tie.spec is-head-sound-requires positions-sound-requires boxes-sound-requires groups-sound-requires returns)

@@ -18,6 +18,9 @@ first-all s = search needs
 last-all : (s : tie.Start) → length (s .args .day .last) ≡ 12
 last-all s = search needs
 
+groups-all : (s : tie.Start) → length (s .args .day .groups) ≡ 12
+groups-all s = search needs
+
 boxes-all : (s : tie.Start) → length (s .args .day .boxes) ≡ 144
 boxes-all s = search needs
 
@@ -39,17 +42,20 @@ slice-aggregate-is-file-sound-3 c = search needs
 slice-aggregate-is-file-sound-4 : tie.Need-slice-aggregate-is-file-sound-4
 slice-aggregate-is-file-sound-4 c = search needs
 
+slice-aggregate-is-file-sound-5 : tie.Need-slice-aggregate-is-file-sound-5
+slice-aggregate-is-file-sound-5 c = search needs
+
 is-file-sound-requires : tie.Need-is-file-sound-requires
 is-file-sound-requires c κs =
-    let d = c .before .before .before .before .before in
-    let s = d .before .before .before .before .before in
+    let d = c .before .before .before .before .before .before in
+    let s = d .before .before .before .before .before .before in
     let e = sym (ap (λ (l : Limits). l .trains) (d .day-limits .ensures)) in
     let f = sym (ap (λ (l : Limits). l .trains * l .trains) (d .day-limits .ensures)) in
-    (numbers-all s ∙ e, (first-all s ∙ e, (last-all s ∙ e, boxes-all s ∙ f)))
+    (numbers-all s ∙ e, (first-all s ∙ e, (last-all s ∙ e, (groups-all s ∙ e, boxes-all s ∙ f))))
 
 returns : tie.Need-returns
 returns c =
-    let h = c .before .before .before .before .before in
+    let h = c .before .before .before .before .before .before in
     rw (h .before .day-limits .ensures, h .head-of .ensures) at (c .is-file-sound .ensures)
 
 pub is-sound-spec : {M : Type 1} → statement M
@@ -62,5 +68,6 @@ is-sound-spec =
     slice-aggregate-is-file-sound-2
     slice-aggregate-is-file-sound-3
     slice-aggregate-is-file-sound-4
+    slice-aggregate-is-file-sound-5
     is-file-sound-requires
     returns)

@@ -2,7 +2,7 @@
 -- Assumes nothing.
 use mathlib.Core.Path.{_≡_, sym, ap, _∙_, subst}
 use mathlib.Core.List.{List}
-use Prim.Native.Nat.{ℕ, _≤_, _*_}
+use Prim.Native.Nat.{ℕ, _≤_}
 use native.Mathlib.Omega.{arith}
 use lib.ListN.{length, drop, replicate, length-replicate}
 use mir.Syntax.{w8}
@@ -12,8 +12,7 @@ use Rattle.day_rows.specs.Steps.{RowTo}
 use Rattle.day_rows.proofs.Tags.{row-refusal}
 use Rattle.day_rows.specs.declared.Step.{Step}
 use Rattle.day_trains.specs.Trains.{TrainsRead, TrainsTo, trains-into}
-use Rattle.day_moves.specs.Moves.{moves-into}
-use Rattle.dayread.specs.Whole.{HeadLimits, head-limits, head-stops, trains-stop, moves-stop, day-read}
+use Rattle.dayread.specs.Whole.{HeadLimits, head-limits, head-stops, trains-stop, rest-stops, day-read}
 use borrow.Author.Needs.{needs}
 use Rattle.dayread.proofs.read_file.Statement.{statement}
 use Rattle.dayread.proofs.read_file.Tie as tie
@@ -21,7 +20,7 @@ use Rattle.dayread.proofs.read_file.Tie as tie
 -- The places passed, each from one after it.
 -- the start, from the call for the first section and from past its match
 abbrev entry : tie.After-read-head → tie.Start
-entry c = c .before .before .before .before .before .before
+entry c = c .before .before .before .before .before .before .before
 
 abbrev start : tie.After-known-told → tie.Start
 start c = entry (c .before .before .before)
@@ -31,15 +30,15 @@ abbrev past-head : tie.After-read-trains → tie.After-known-told
 past-head c = c .before .before .before .before
 
 -- the call for the trains, from where the columns are given back and from past its match
-abbrev given-back : tie.After-slice-known7 → tie.After-read-trains
+abbrev given-back : tie.After-slice-known8 → tie.After-read-trains
 given-back c = c .before .before .before .before .before .before
 
 abbrev called : tie.After-known-told2 → tie.After-read-trains
 called c = given-back (c .before .before .before)
 
--- past that match, from the call for the moves
-abbrev past-trains : tie.After-read-moves → tie.After-known-told2
-past-trains c = c .before .before .before
+-- past that match, from the call for the other two sections
+abbrev past-trains : tie.After-read-rest → tie.After-known-told2
+past-trains c = c .before .before .before .before
 
 -- past the first match the first section was read, within its limits
 head : (c : tie.After-known-told)
@@ -135,27 +134,22 @@ returns-2 c =
     let x = c .before .trains2 .given in
     trains-stop (a .l) (a .text .now) (head h) (x .0 .0) (told q (x .1))
 
-add-read-moves : tie.Need-add-read-moves
-add-read-moves c = search needs
-
-read-moves-requires : tie.Need-read-moves-requires
-read-moves-requires c κs =
-    let q = called (c .before .before) in
+read-rest-requires : tie.Need-read-rest-requires
+read-rest-requires c κs =
+    let q = called (c .before .before .before) in
     let h = past-head q in
     let p = start h .pre in
     let n = start h .args .l .trains in
-    (omega (arith, limits h .trains, p .0), (long h (q .read-trains .kept .1 .1 .1 .1 .1 .0 ∙ zeros n (start h .args .numbers .now) (p .1 .0)), (limits h .trains, subst (λ k. n * n ≤ k) (sym (zeros (n * n) (start h .args .boxes .now) (p .1 .1 .1 .1))) (omega arith))))
+    (p .0, (limits h .trains, (long h (q .read-trains .kept .1 .1 .1 .1 .1 .0 ∙ zeros n (start h .args .numbers .now) (p .1 .0)), p .1 .1 .1 .1)))
 
 enum-told : tie.Need-enum-told
 enum-told c = search needs
 
 narrow-requires : tie.Need-narrow-requires
-narrow-requires c κs =
-    let h = past-head (called (past-trains (c .before .before .before .before))) in
-    byte h
+narrow-requires c κs = byte (past-head (called (past-trains (c .before .before .before .before .before .before))))
 
-enum-known-moves : tie.Need-enum-known-moves
-enum-known-moves c = search needs
+enum-known-rest : tie.Need-enum-known-rest
+enum-known-rest c = search needs
 
 same-length-4 : tie.Need-same-length-4
 same-length-4 c = search needs
@@ -169,17 +163,16 @@ same-length-6 c = search needs
 same-length-7 : tie.Need-same-length-7
 same-length-7 c = search needs
 
+same-length-8 : tie.Need-same-length-8
+same-length-8 c = search needs
+
 returns-3 : tie.Need-returns-3
 returns-3 c =
-    let q = c .before .before .before .before .before in
+    let q = c .before .before .before .before .before .before .before in
     let g = past-trains q in
     let h = past-head (called g) in
     let a = start h .args in
-    let m = moves-into _ (rw (c .before .enum-told .given .1) at (q .read-moves .ensures)) (start h .pre .1 .1 .1 .1) in
-    rw (c .narrow .ensures) (day-read (a .l) (a .text .now) (head h) (trains g) m)
-
-same-length-8 : tie.Need-same-length-8
-same-length-8 c = search needs
+    rw (c .narrow .ensures) (day-read (a .l) (a .text .now) (head h) (trains g) (rw (c .before .enum-told .given .1) at (q .read-rest .ensures)))
 
 same-length-9 : tie.Need-same-length-9
 same-length-9 c = search needs
@@ -190,14 +183,20 @@ same-length-10 c = search needs
 same-length-11 : tie.Need-same-length-11
 same-length-11 c = search needs
 
+same-length-12 : tie.Need-same-length-12
+same-length-12 c = search needs
+
+same-length-13 : tie.Need-same-length-13
+same-length-13 c = search needs
+
 returns-4 : tie.Need-returns-4
 returns-4 c =
-    let q = c .before .before .before .before .before in
+    let q = c .before .before .before .before .before .before .before in
     let g = past-trains q in
     let h = past-head (called g) in
     let a = start h .args in
-    let x = c .before .moves .given in
-    moves-stop (a .l) (a .text .now) (head h) (trains g) (x .0 .0) (rw (x .1) at (q .read-moves .ensures))
+    let x = c .before .rest .given in
+    rest-stops (a .l) (a .text .now) (head h) (trains g) (x .0 .0) (rw (x .1) at (q .read-rest .ensures))
 
 pub read-file-spec : {M : Type 1} → statement M
 read-file-spec =
@@ -215,18 +214,19 @@ read-file-spec =
     same-length-2
     same-length-3
     returns-2
-    add-read-moves
-    read-moves-requires
+    read-rest-requires
     enum-told
     narrow-requires
-    enum-known-moves
+    enum-known-rest
     same-length-4
     same-length-5
     same-length-6
     same-length-7
-    returns-3
     same-length-8
+    returns-3
     same-length-9
     same-length-10
     same-length-11
+    same-length-12
+    same-length-13
     returns-4)

@@ -1,25 +1,25 @@
--- `daywrite::put_day` meets its contract: the arrays of a record are long enough.
+-- `daywrite::put_day` meets its contract: the arrays of a sound record are long enough.
 -- Assumes nothing.
-use mathlib.Core.Path.{_≡_, ap}
+use mathlib.Core.Path.{sym}
 use native.Mathlib.Omega.{arith}
-use lib.ListN.{length}
-use Rattle.day.specs.declared.Head.{Head}
+use Rattle.day.specs.Sound.{dayLimits, yard}
+use Rattle.day.specs.SoundLaws.{Sound, sound-is}
 use borrow.Author.Needs.{needs}
 use Rattle.daywrite.proofs.put_day.Statement.{statement}
 use Rattle.daywrite.proofs.put_day.Tie as tie
 
--- the arrays of a record have its lengths
-numbers-all : (s : tie.Start) → length (s .args .day .numbers) ≡ 12
-numbers-all s = search needs
+-- the limits, from the place after the head; the start, from the limits
+abbrev limits : tie.After-head-of → tie.After-day-limits
+limits c = c .before .before
 
-first-all : (s : tie.Start) → length (s .args .day .first) ≡ 12
-first-all s = search needs
+abbrev start : tie.After-day-limits → tie.Start
+start c = c .before .before .before .before .before .before .before
 
-last-all : (s : tie.Start) → length (s .args .day .last) ≡ 12
-last-all s = search needs
+least : (s : tie.Start) → Sound dayLimits (yard (s .args .day))
+least s = sound-is dayLimits (yard (s .args .day)) (s .pre .0)
 
-boxes-all : (s : tie.Start) → length (s .args .day .boxes) ≡ 144
-boxes-all s = search needs
+day-limits-requires : tie.Need-day-limits-requires
+day-limits-requires c κs = search needs
 
 head-of-requires : tie.Need-head-of-requires
 head-of-requires c κs = search needs
@@ -36,30 +36,47 @@ slice-aggregate-put-file-3 c = search needs
 slice-aggregate-put-file-4 : tie.Need-slice-aggregate-put-file-4
 slice-aggregate-put-file-4 c = search needs
 
+slice-aggregate-put-file-5 : tie.Need-slice-aggregate-put-file-5
+slice-aggregate-put-file-5 c = sym (least (start (limits (c .before .before .before .before .before))) .shape .boxes)
+
 put-file-requires : tie.Need-put-file-requires
 put-file-requires c κs =
-    let h = c .before .before .before .before in
-    let s = h .before .before .before .before .before .before .before in
-    let few = ap (λ (x : Head). x .trains) (h .head-of .ensures) in (
-      (omega (arith, few, s .pre .0, numbers-all s), (omega (arith, few, s .pre .0, first-all s), (omega (arith, few, s .pre .0, last-all s), (omega (arith, numbers-all s), omega (arith, boxes-all s))))),
-      rw (h .head-of .ensures) (s .pre .1),
+    let h = c .before .before .before .before .before in
+    let s = start (limits h) in
+    let is = least s in
+    rw (limits h .day-limits .ensures, h .head-of .ensures) (
+      record {
+        numbered = omega (arith, is .trains .1, is .shape .numbers);
+        firsts = omega (arith, is .trains .1, is .shape .first);
+        lasts = omega (arith, is .trains .1, is .shape .last);
+        members = omega (arith, is .trains .1, is .shape .groups);
+        places = omega (arith, is .shape .numbers);
+        table = omega (arith, is .shape .boxes);
+        low = is .groups;
+      },
+      s .pre .1,
     )
 
 same-length : tie.Need-same-length
 same-length c = search needs
 
 returns : tie.Need-returns
-returns c = rw (c .before .before .before .before .before .before .before .head-of .ensures) at (c .before .before .put-file .ensures)
+returns c =
+    let p = c .before .before in
+    let h = p .before .before .before .before .before .before in
+    rw (limits h .day-limits .ensures, h .head-of .ensures) at (p .put-file .ensures)
 
 pub put-day-spec : {M : Type 1} → statement M
 put-day-spec =
     tie.close
     (tie.spec
+    day-limits-requires
     head-of-requires
     slice-aggregate-put-file
     slice-aggregate-put-file-2
     slice-aggregate-put-file-3
     slice-aggregate-put-file-4
+    slice-aggregate-put-file-5
     put-file-requires
     same-length
     returns)

@@ -8,7 +8,6 @@ use lib.ListN.{length, take}
 use borrow.Author.Tests.{not-true, not-false}
 use Rattle.fold.specs.Test.{of-true}
 use Rattle.day.specs.Sound.{dayLimits, yard, sound}
-use Rattle.day.specs.SoundLaws.{sound-is}
 use Rattle.dayfile.specs.Calls.{dayChecks}
 use Rattle.dayfile.specs.Writing.{dayText}
 use Rattle.dayfile.specs.Size.{dayBytes, day-size, day-most}
@@ -21,14 +20,14 @@ use Rattle.daywrite.proofs.write_day.Tie as tie
 sound-day : (c : tie.Else1) → sound dayLimits (yard (c .before .before .before .args .day)) ≡ true
 sound-day c = sym (c .before .is-sound .ensures) ∙ not-false _ (c .if1 .left)
 
-text-fits : (c : tie.Else1) → length (dayText (yard (c .before .before .before .args .day))) ≤ dayBytes
+text-fits : (c : tie.Else1) → length (dayText dayLimits (yard (c .before .before .before .args .day))) ≤ dayBytes
 text-fits c = omega (arith, day-size dayLimits _ (of-true (sound-day c)), day-most)
 
 -- the buffer's front is that text
-count : (c : tie.After-put-day) → c .put-day .result ≡ length (dayText (yard (c .before .before .before .before .before .args .day)))
+count : (c : tie.After-put-day) → c .put-day .result ≡ length (dayText dayLimits (yard (c .before .before .before .before .before .args .day)))
 count c = put-count (c .put-day .ensures)
 
-front : (c : tie.After-put-day) → take (c .put-day .result) (c .put-day .last .1 .0) ≡ dayText (yard (c .before .before .before .before .before .args .day))
+front : (c : tie.After-put-day) → take (c .put-day .result) (c .put-day .last .1 .0) ≡ dayText dayLimits (yard (c .before .before .before .before .before .args .day))
 front c = put-front (c .put-day .ensures) (text-fits (c .before .before))
 
 front-length : (c : tie.After-put-day) → length (take (c .put-day .result) (c .put-day .last .1 .0)) ≡ c .put-day .result
@@ -46,7 +45,7 @@ slice-aggregate-put-day : tie.Need-slice-aggregate-put-day
 slice-aggregate-put-day c = search needs
 
 put-day-requires : tie.Need-put-day-requires
-put-day-requires c κs = (sound-is _ _ (of-true (sound-day (c .before))) .trains .1, text-fits (c .before))
+put-day-requires c κs = (of-true (sound-day (c .before)), text-fits (c .before))
 
 array-share-prefix-text : tie.Need-array-share-prefix-text
 array-share-prefix-text c = let p = c .before in omega (arith, count p, text-fits (p .before .before), p .put-day .kept .1 .0)

@@ -1,7 +1,7 @@
--- `lines::read_line` meets its contract. By the four cases of what is due.
+-- `lines::read_line` meets its contract. By the six cases of what is due.
 -- Assumes nothing.
 use Rattle.decimal.specs.PlaceLaws.{at-end}
-use Rattle.lines.specs.ReaderLaws.{row-due}
+use Rattle.lines.specs.ReaderLaws.{goes-on}
 use borrow.Author.Needs.{needs}
 use Rattle.lines.proofs.read_line.Statement.{statement}
 use Rattle.lines.proofs.read_line.Tie as tie
@@ -30,6 +30,18 @@ enum-told-4 c = search needs
 read-three-requires-2 : tie.Need-read-three-requires-2
 read-three-requires-2 c κs = search needs
 
+enum-told-5 : tie.Need-enum-told-5
+enum-told-5 c = search needs
+
+read-names-or-three-requires : tie.Need-read-names-or-three-requires
+read-names-or-three-requires c κs = search needs
+
+enum-told-6 : tie.Need-enum-told-6
+enum-told-6 c = search needs
+
+read-two-requires : tie.Need-read-two-requires
+read-two-requires c κs = search needs
+
 returns : tie.Need-returns
 returns c = rw (c .before .enum-told .given .1) (c .read-names .ensures)
 
@@ -43,7 +55,19 @@ returns-4 : tie.Need-returns-4
 returns-4 c = rw (c .before .enum-told4 .given .1, at-end _ _ (c .if1 .taken))
 
 returns-5 : tie.Need-returns-5
-returns-5 c = rw (c .before .before .enum-told4 .given .1, row-due _ _ _ _ (c .before .if1 .left)) (c .read-three2 .ensures)
+returns-5 c = rw (c .before .before .enum-told4 .given .1, goes-on _ _ _ (c .before .if1 .left)) (c .read-three2 .ensures)
+
+returns-6 : tie.Need-returns-6
+returns-6 c = rw (c .before .enum-told5 .given .1, at-end _ _ (c .if2 .taken))
+
+returns-7 : tie.Need-returns-7
+returns-7 c = rw (c .before .before .enum-told5 .given .1, goes-on _ _ _ (c .before .if2 .left)) (c .read-names-or-three .ensures)
+
+returns-8 : tie.Need-returns-8
+returns-8 c = rw (c .before .enum-told6 .given .1, at-end _ _ (c .if3 .taken))
+
+returns-9 : tie.Need-returns-9
+returns-9 c = rw (c .before .before .enum-told6 .given .1, goes-on _ _ _ (c .before .if3 .left)) (c .read-two .ensures)
 
 pub read-line-spec : {M : Type 1} → statement M
 read-line-spec =
@@ -57,8 +81,16 @@ read-line-spec =
     read-five-requires
     enum-told-4
     read-three-requires-2
+    enum-told-5
+    read-names-or-three-requires
+    enum-told-6
+    read-two-requires
     returns
     returns-2
     returns-3
     returns-4
-    returns-5)
+    returns-5
+    returns-6
+    returns-7
+    returns-8
+    returns-9)

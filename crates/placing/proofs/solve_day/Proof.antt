@@ -1,8 +1,9 @@
 -- `placing::solve_day` meets its contract. The filled tables are those of the day (staging's `DayTables`), so solving them solves the day
 -- (`solved-day`).
 -- Assumes nothing.
-use mathlib.Core.Path.{_≡_, sym, subst}
-use Prim.Native.Nat.{ℕ, _^_, _≤_, _<_}
+use mathlib.Core.Path.{_≡_, sym, ap, _∙_, subst}
+use mathlib.Core.Bool.{cond}
+use Prim.Native.Nat.{ℕ, _*_, _^_, _≤_, _<_}
 use native.Mathlib.Nat.{pow-le-pow-right}
 use native.Mathlib.Omega.{arith}
 use lib.Dec.{lit≤}
@@ -10,10 +11,12 @@ use lib.Pow.{pow-pos}
 use Rattle.day.specs.Sound.{dayLimits, yard}
 use Rattle.day.specs.SoundLaws.{Sound, sound-is}
 use Rattle.day.specs.Most.{cost-most}
-use Rattle.staging.specs.Tables.{Tables, tablesOf}
+use Rattle.model.specs.Model.{received}
+use Rattle.staging.specs.Tables.{fromOutside, together, Tables, tablesOf, barred}
 use Rattle.staging.specs.SlotInRow.{rowAround, split-in-row}
 use Rattle.staging.specs.FromTables.{DayTables, room-enough, unbarred-cheap, solved-day}
 use Rattle.tables.specs.Given.{Given}
+use Rattle.placing.specs.Placed.{prices-barred}
 use borrow.Author.Needs.{needs}
 use Rattle.placing.proofs.solve_day.Statement.{statement}
 use Rattle.placing.proofs.solve_day.Tie as tie
@@ -21,7 +24,7 @@ use Rattle.placing.proofs.solve_day.Tie as tie
 -- ---- the places: the start, seen from where each table is filled, and these from one another
 
 abbrev head : tie.After-struct-known → tie.Start
-head c = c .before .before .before .before .before .before
+head c = c .before .before .before .before .before .before .before
 
 abbrev past-need : tie.After-fill-late → tie.After-fill-needing
 past-need c = c .before .before .before
@@ -29,8 +32,11 @@ past-need c = c .before .before .before
 abbrev past-late : tie.After-fill-price → tie.After-fill-late
 past-late c = c .before .before .before .before
 
-abbrev past-price : tie.After-fill-open → tie.After-fill-price
-past-price c = c .before .before .before .before .before
+abbrev past-price : tie.After-bar-groups → tie.After-fill-price
+past-price c = c .before .before .before .before
+
+abbrev past-barred : tie.After-fill-open → tie.After-bar-groups
+past-barred c = c .before .before .before .before .before
 
 abbrev at-need : tie.After-boxes2 → tie.Start
 at-need c = head (c .before .before)
@@ -41,8 +47,11 @@ at-late c = at-need (c .before .before .before)
 abbrev at-price : tie.After-boxes3 → tie.Start
 at-price c = at-late (c .before .before .before .before)
 
+abbrev at-barred : tie.After-groups2 → tie.Start
+at-barred c = at-price (c .before .before .before .before)
+
 abbrev at-open : tie.After-opens → tie.Start
-at-open c = at-price (c .before .before .before)
+at-open c = at-barred (c .before .before .before)
 
 abbrev start : tie.After-fill-open → tie.Start
 start c = at-open (c .before .before .before)
@@ -68,16 +77,21 @@ given c = record { few = least c .trains .1; narrow = least c .trains .1; whole 
 -- the filled tables, and that they are the day's
 abbrev filled : tie.After-fill-open → Tables
 filled f =
-    tablesOf (past-need (past-late (past-price f)) .fill-needing .last .0) (past-late (past-price f) .fill-late .last .0) (past-price f .fill-price .last .0)
-    (f .fill-open .last .0)
+    let p = past-price (past-barred f) in
+    tablesOf (past-need (past-late p) .fill-needing .last .0) (past-late p .fill-late .last .0) (past-barred f .bar-groups .last .0) (f .fill-open .last .0)
 
 day-tables : (f : tie.After-fill-open) → DayTables (yard (start f .args .day)) (filled f)
 day-tables f =
-    let below : (m : ℕ) → m < 2 ^ start f .args .day .trains → m < start f .args .size = λ m h. omega (arith, start f .pre .1 .0) in
+    let y = yard (start f .args .day) in
+    let below : (m : ℕ) → m < 2 ^ y .trains → m < start f .args .size = λ m h. omega (arith, start f .pre .1 .0) in
+    let p = past-price (past-barred f) in
     record {
-      needs = past-need (past-late (past-price f)) .fill-needing .ensures .all;
-      lates = past-late (past-price f) .fill-late .ensures .all;
-      prices = λ m h. past-price f .fill-price .ensures .all m (below m h);
+      needs = past-need (past-late p) .fill-needing .ensures .all;
+      lates = past-late p .fill-late .ensures .all;
+      prices = λ m h.
+          past-barred f .bar-groups .ensures .all m (below m h)
+          ∙ ap (λ x. cond (together (y .trains) (y .groups) m) x barred) (p .fill-price .ensures .all m (below m h))
+          ∙ prices-barred y m (y .split * fromOutside (y .trains) (received y) m);
       windows = f .fill-open .ensures .all;
       cheap = λ row. omega (arith, cost-most (yard (start f .args .day)) row (start f .pre .0));
     }
@@ -106,7 +120,7 @@ slice-aggregate-fill-price : tie.Need-slice-aggregate-fill-price
 slice-aggregate-fill-price c = search needs
 
 slice-aggregate-fill-price-2 : tie.Need-slice-aggregate-fill-price-2
-slice-aggregate-fill-price-2 c = search needs
+slice-aggregate-fill-price-2 c = sym (least (at-price c) .shape .boxes)
 
 fill-price-requires : tie.Need-fill-price-requires
 fill-price-requires c κs =
@@ -117,6 +131,17 @@ fill-price-requires c κs =
       small s,
       λ x l. omega (arith, split-in-row y x (omega (arith, s .pre .1 .0)), cost-most y (rowAround (y .trains) x x) (s .pre .0)),
     )
+
+slice-aggregate-bar-groups : tie.Need-slice-aggregate-bar-groups
+slice-aggregate-bar-groups c = search needs
+
+slice-aggregate-bar-groups-2 : tie.Need-slice-aggregate-bar-groups-2
+slice-aggregate-bar-groups-2 c = sym (least (at-barred c) .shape .groups)
+
+bar-groups-requires : tie.Need-bar-groups-requires
+bar-groups-requires c κs =
+    let s = at-barred c in
+    (least s .trains .1, (omega (arith, least s .shape .groups, least s .trains .1), (s .pre .1 .0, (small s, subst (λ k. s .args .size ≤ k) (sym (c .before .before .before .fill-price .kept .0)) (small s)))))
 
 slice-aggregate-fill-open : tie.Need-slice-aggregate-fill-open
 slice-aggregate-fill-open c = search needs
@@ -149,15 +174,16 @@ slice-aggregate-solve-4 c = search needs
 solve-requires : tie.Need-solve-requires
 solve-requires c κs =
     let f = c .before .before .before .before .before .before .before in
+    let p = past-price (past-barred f) in
     let s = start f in
     let long : (k : ℕ) → k ≡ 4096 → s .args .size ≤ k = λ k e. omega (arith, small s) in
     let slots : s .args .day .slots ≤ 8 = least s .slots .1 in (
       record {
         sets = (omega (arith, pow-pos (s .args .day .trains), s .pre .1 .0), small s);
         stages = least s .slots;
-        needs = long _ (past-need (past-late (past-price f)) .fill-needing .kept .0);
-        lates = long _ (past-late (past-price f) .fill-late .kept .0);
-        prices = long _ (past-price f .fill-price .kept .0);
+        needs = long _ (past-need (past-late p) .fill-needing .kept .0);
+        lates = long _ (past-late p .fill-late .kept .0);
+        prices = long _ (past-barred f .bar-groups .kept .0 ∙ p .fill-price .kept .0);
         opened = subst (λ k. s .args .day .slots ≤ k) (sym (f .fill-open .kept .0)) slots;
         fits = λ t r x l hx m. omega (arith, unbarred-cheap (day-tables f) t r x (omega (arith, s .pre .1 .0)) hx m);
       },
@@ -191,6 +217,9 @@ solve-day-spec =
     slice-aggregate-fill-price
     slice-aggregate-fill-price-2
     fill-price-requires
+    slice-aggregate-bar-groups
+    slice-aggregate-bar-groups-2
+    bar-groups-requires
     slice-aggregate-fill-open
     slice-aggregate-fill-open-2
     slice-aggregate-fill-open-3

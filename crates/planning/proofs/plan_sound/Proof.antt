@@ -1,18 +1,21 @@
--- `planning::plan_sound` meets its contract. Either an interval is overbooked, and no row is allowed, or none is, and some row is (feasibility's
--- `none-row`).
+-- `planning::plan_sound` meets its contract. Either an interval is overbooked, and no row is allowed; or none is, and the trains are placed or
+-- no row is allowed.
 -- Assumes nothing.
 use mathlib.Core.Path.{_≡_, refl, sym, ap, _∙_, subst}
 use mathlib.Core.List.{[], _∷_}
+use mathlib.Core.Option.{none}
 use Prim.Native.Nat.{_≤_}
 use native.Mathlib.Omega.{arith}
 use lib.ListN.{length}
 use lib.Seq.{length-take-le}
+use borrow.Author.Tests.{not-true, not-false}
+use Rattle.model.specs.Overbooked.{firstOverbooked}
 use Rattle.day.specs.Answer.{gives, refuses}
 use Rattle.day.specs.Sound.{dayLimits, yard}
 use Rattle.day.specs.SoundLaws.{Sound, sound-is}
 use Rattle.feasibility.specs.Search.{Finds, finds-day}
-use Rattle.feasibility.specs.RowOrNone.{none-row}
-use Rattle.planning.specs.Laws.{says-nine, says-plan}
+use Rattle.placing.specs.Placed.{is-placed, is-unplaced}
+use Rattle.planning.specs.Laws.{says-nine, says-sixteen, says-plan}
 use borrow.Author.Needs.{needs}
 use Rattle.planning.proofs.plan_sound.Statement.{statement}
 use Rattle.planning.proofs.plan_sound.Tie as tie
@@ -28,6 +31,9 @@ searched c = c .before .before .before .before .before
 abbrev origin : tie.After-place-trains → tie.Start
 origin c = start (searched (c .before))
 
+abbrev placed : tie.Else1 → tie.After-place-trains
+placed c = c .before .before .before .before .before .before .before
+
 -- ---- what holds there
 
 -- what a sound day says
@@ -37,6 +43,13 @@ least c = sound-is dayLimits (yard (c .args .day)) (c .pre .0)
 -- the row is still as long
 long : (c : tie.After-place-trains) → origin c .args .day .trains ≤ length (c .place-trains .last .1 .1 .1 .0)
 long c = subst (λ k. origin c .args .day .trains ≤ k) (sym (c .place-trains .kept .1 .1 .1 .0)) (origin c .pre .1 .1 .1 .1)
+
+-- no interval is overbooked
+spacious : (c : tie.After-place-trains) → firstOverbooked (yard (origin c .args .day)) ≡ none
+spacious c =
+    let search = searched (c .before) in
+    let y = yard (start search .args .day) in
+    subst (Finds y) (c .before .before .before .before .enum-told .given .1) (finds-day y (search .first-overbooked .result) (search .first-overbooked .ensures))
 
 -- ---- the needs
 
@@ -67,31 +80,7 @@ enum-told : tie.Need-enum-told
 enum-told c = search needs
 
 place-trains-requires : tie.Need-place-trains-requires
-place-trains-requires c κs =
-    let search = searched c in
-    let s = start search in
-    let f = subst (Finds (yard (s .args .day))) (c .before .before .before .enum-told .given .1) (finds-day (yard (s .args .day)) (search .first-overbooked .result) (search .first-overbooked .ensures)) in
-    (s .pre .0, (none-row (yard (s .args .day)) (least s .windows) f, s .pre .1))
-
-slice-aggregate-value-slots : tie.Need-slice-aggregate-value-slots
-slice-aggregate-value-slots c = sym (least (origin (c .before .before .before .before .before .before .before)) .shape .boxes)
-
-slice-reshare-prefix-value-slots : tie.Need-slice-reshare-prefix-value-slots
-slice-reshare-prefix-value-slots c = long (c .before .before .before .before .before .before .before)
-
-slice-aggregate-value-slots-2 : tie.Need-slice-aggregate-value-slots-2
-slice-aggregate-value-slots-2 c =
-    let p = c .before .before .before .before .before .before .before .before in
-    sym (length-take-le (origin p .args .day .trains) _ (long p))
-
-value-slots-requires : tie.Need-value-slots-requires
-value-slots-requires c κs =
-    let p = c .before .before .before .before .before .before .before .before in
-    let n = origin p .args .day .trains in
-    let few : n ≤ 12 = least (origin p) .trains .1 in
-    let whole : length (origin p .args .day .boxes) ≡ 144 = least (origin p) .shape .boxes in
-    let taken = length-take-le n (p .place-trains .last .1 .1 .1 .0) (long p) in
-    record { few = omega arith; narrow = few; whole = omega arith; long = omega (arith, taken) }
+place-trains-requires c κs = start (searched c) .pre
 
 same-length : tie.Need-same-length
 same-length c = search needs
@@ -104,10 +93,47 @@ same-length-3 c = search needs
 
 returns-2 : tie.Need-returns-2
 returns-2 c =
-    let called = c .before in
-    let p = called .before .before .before .before .before .before .before .before in
+    let p = c .before .before .before .before .before .before .before in
     let a = origin p .args in
-    let h = p .place-trains .ensures in
+    let h = is-unplaced (p .place-trains .result) (p .place-trains .ensures) (not-true _ (c .if1 .taken)) in
+    let s = says-sixteen (yard (a .day)) (a .row .now) (spacious p) (h .nowhere) in
+    record { says = s .0; rowIs = h .same ∙ s .1; costs = h .costs; choices = h .choices }
+
+slice-aggregate-value-slots : tie.Need-slice-aggregate-value-slots
+slice-aggregate-value-slots c = sym (least (origin (placed (c .before))) .shape .boxes)
+
+slice-reshare-prefix-value-slots : tie.Need-slice-reshare-prefix-value-slots
+slice-reshare-prefix-value-slots c = long (placed (c .before))
+
+slice-aggregate-value-slots-2 : tie.Need-slice-aggregate-value-slots-2
+slice-aggregate-value-slots-2 c =
+    let p = placed (c .before .before) in
+    sym (length-take-le (origin p .args .day .trains) _ (long p))
+
+value-slots-requires : tie.Need-value-slots-requires
+value-slots-requires c κs =
+    let p = placed (c .before .before) in
+    let n = origin p .args .day .trains in
+    let few : n ≤ 12 = least (origin p) .trains .1 in
+    let whole : length (origin p .args .day .boxes) ≡ 144 = least (origin p) .shape .boxes in
+    let taken = length-take-le n (p .place-trains .last .1 .1 .1 .0) (long p) in
+    record { few = omega arith; narrow = few; whole = omega arith; long = omega (arith, taken) }
+
+same-length-4 : tie.Need-same-length-4
+same-length-4 c = search needs
+
+same-length-5 : tie.Need-same-length-5
+same-length-5 c = search needs
+
+same-length-6 : tie.Need-same-length-6
+same-length-6 c = search needs
+
+returns-3 : tie.Need-returns-3
+returns-3 c =
+    let e = c .before .before .before in
+    let p = placed e in
+    let a = origin p .args in
+    let h = is-placed (p .place-trains .result) (p .place-trains .ensures) (not-false _ (e .if1 .left)) in
     let s = says-plan (yard (a .day)) (a .row .now) (p .place-trains .last .1 .1 .1 .0) (h .best) (h .rest) (long p) in
     record { says = ap gives (c .value-slots .ensures) ∙ s .0; rowIs = s .1; costs = h .costs; choices = h .choices }
 
@@ -122,11 +148,15 @@ plan-sound-spec =
     returns
     enum-told
     place-trains-requires
+    same-length
+    same-length-2
+    same-length-3
+    returns-2
     slice-aggregate-value-slots
     slice-reshare-prefix-value-slots
     slice-aggregate-value-slots-2
     value-slots-requires
-    same-length
-    same-length-2
-    same-length-3
-    returns-2)
+    same-length-4
+    same-length-5
+    same-length-6
+    returns-3)

@@ -6,8 +6,7 @@ use borrow.Author.Needs.{needs}
 use native.Mathlib.Omega.{arith}
 use Rattle.optimum.specs.Workspace.{at}
 use Rattle.prices.specs.Entries.{priceOf}
-use Rattle.tables.specs.Filled.{Filled, filled-none, filled-next, filled-end}
-use Rattle.prices.specs.Filling.{unread}
+use Rattle.tables.specs.Filled.{Filled, filled-none, filled-next, filled-end, unread}
 use Rattle.prices.proofs.set_prices.Statement.{statement}
 use Rattle.prices.proofs.set_prices.Tie as tie
 

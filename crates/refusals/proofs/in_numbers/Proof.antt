@@ -91,6 +91,27 @@ enum-known-refusal-11 c = search needs
 carrying-requires-13 : tie.Need-carrying-requires-13
 carrying-requires-13 c κs = search needs
 
+enum-known-refusal-12 : tie.Need-enum-known-refusal-12
+enum-known-refusal-12 c = search needs
+
+carrying-requires-14 : tie.Need-carrying-requires-14
+carrying-requires-14 c κs = search needs
+
+enum-told-4 : tie.Need-enum-told-4
+enum-told-4 c = search needs
+
+carrying-requires-15 : tie.Need-carrying-requires-15
+carrying-requires-15 c κs = search needs
+
+enum-known-refusal-13 : tie.Need-enum-known-refusal-13
+enum-known-refusal-13 c = search needs
+
+cast-carrying-2 : tie.Need-cast-carrying-2
+cast-carrying-2 c = search needs
+
+carrying-requires-16 : tie.Need-carrying-requires-16
+carrying-requires-16 c κs = search needs
+
 returns : tie.Need-returns
 returns c = rw (c .before .before .refusal .given .1) (c .carrying .ensures)
 
@@ -133,6 +154,15 @@ returns-13 c = rw (c .before .before .refusal10 .given .1) (c .carrying12 .ensur
 returns-14 : tie.Need-returns-14
 returns-14 c = rw (c .before .before .refusal11 .given .1) (c .carrying13 .ensures)
 
+returns-15 : tie.Need-returns-15
+returns-15 c = rw (c .before .before .refusal12 .given .1) (c .carrying14 .ensures)
+
+returns-16 : tie.Need-returns-16
+returns-16 c = rw (c .before .enum-told4 .given .1) (c .carrying15 .ensures)
+
+returns-17 : tie.Need-returns-17
+returns-17 c = rw (c .before .before .refusal13 .given .1) (c .carrying16 .ensures)
+
 pub in-numbers-spec : {M : Type 1} → statement M
 in-numbers-spec =
     tie.close
@@ -166,6 +196,13 @@ in-numbers-spec =
     carrying-requires-12
     enum-known-refusal-11
     carrying-requires-13
+    enum-known-refusal-12
+    carrying-requires-14
+    enum-told-4
+    carrying-requires-15
+    enum-known-refusal-13
+    cast-carrying-2
+    carrying-requires-16
     returns
     returns-2
     returns-3
@@ -179,4 +216,7 @@ in-numbers-spec =
     returns-11
     returns-12
     returns-13
-    returns-14)
+    returns-14
+    returns-15
+    returns-16
+    returns-17)

@@ -32,6 +32,9 @@ first-all s = search needs
 last-all : (s : tie.Start) → length (s .args .day .last) ≡ 12
 last-all s = search needs
 
+groups-all : (s : tie.Start) → length (s .args .day .groups) ≡ 12
+groups-all s = search needs
+
 boxes-all : (s : tie.Start) → length (s .args .day .boxes) ≡ 144
 boxes-all s = search needs
 
@@ -40,6 +43,9 @@ is-sound-requires c κs = search needs
 
 returns : tie.Need-returns
 returns c = says-unsound _ _ _ (sym (c .before .is-sound .ensures) ∙ not-true _ (c .if1 .taken))
+
+day-limits-requires : tie.Need-day-limits-requires
+day-limits-requires c κs = search needs
 
 head-of-requires : tie.Need-head-of-requires
 head-of-requires c κs = search needs
@@ -53,23 +59,32 @@ slice-aggregate-value-row-2 c = search needs
 slice-aggregate-value-row-3 : tie.Need-slice-aggregate-value-row-3
 slice-aggregate-value-row-3 c = search needs
 
+slice-aggregate-value-row-4 : tie.Need-slice-aggregate-value-row-4
+slice-aggregate-value-row-4 c = search needs
+
+-- before the limits the test
+abbrev tested : tie.After-day-limits → tie.Else1
+tested c = c .before .before .before .before .before
+
 value-row-requires : tie.Need-value-row-requires
 value-row-requires c κs =
-    let h = c .before .before .before in
-    let e = h .before .before .before .before in
+    let h = c .before .before .before .before in
+    let e = tested (h .before) in
     let s = start e in
-    let same = ap (λ (x : Head). x .trains) (h .head-of .ensures) in
     let few = limited e .trains .1 in
-    (omega (arith, same, few), (omega (arith, same, few), (omega (arith, boxes-all s), (omega (arith, same, few, first-all s), omega (arith, same, few, last-all s)))))
+    rw (h .before .day-limits .ensures, h .head-of .ensures) (
+      (omega (arith, few), (few, (omega (arith, boxes-all s), (omega (arith, few, first-all s), (omega (arith, few, last-all s), omega (arith, few, groups-all s)))))),
+      limited e .groups,
+    )
 
 returns-2 : tie.Need-returns-2
 returns-2 c =
-    let h = c .before .before .before .before in
-    let e = h .before .before .before .before in
+    let h = c .before .before .before .before .before in
+    let e = tested (h .before) in
     let a = start e .args in
     let d = a .day in
-    rw (h .head-of .ensures) at (c .value-row .ensures)
-    ∙ any-numbers (headOf d) [] (d .numbers) (d .first) (d .last) 12 (d .boxes) (a .row .now)
+    rw (h .before .day-limits .ensures, h .head-of .ensures) at (c .value-row .ensures)
+    ∙ any-numbers dayLimits (headOf d) [] (d .numbers) (d .first) (d .last) (d .groups) 12 (d .boxes) (a .row .now)
     ∙ says-sound dayLimits (yard d) (a .row .now) (sound-day e)
 
 pub value-assignment-spec : {M : Type 1} → statement M
@@ -78,9 +93,11 @@ value-assignment-spec =
     (tie.spec
     is-sound-requires
     returns
+    day-limits-requires
     head-of-requires
     slice-aggregate-value-row
     slice-aggregate-value-row-2
     slice-aggregate-value-row-3
+    slice-aggregate-value-row-4
     value-row-requires
     returns-2)
