@@ -42,10 +42,10 @@ enum { FUNCTIONS = sizeof functions / sizeof *functions, COMPILED = (FUNCTIONS -
 
 /* ---- the days, as texts */
 
-/* A day file has at most 2,317 bytes. */
+/* A day file has at most 2,437 bytes. */
 enum { MOST_TEXT = 4096, MOST_DAYS = 64, MOST_TRAINS = 12, PER_PROBABILITY = 5 };
 
-enum group { MAIN, PUBLISHED, GROWTH, WINDOWS, REFUSED };
+enum group { MAIN, PUBLISHED, GROWTH, WINDOWS, SETS, OVERBOOKED, UNKEPT };
 
 struct day {
     enum group group;
@@ -53,6 +53,7 @@ struct day {
     unsigned trains, tracks, slots, revisit, split;
     unsigned first[MOST_TRAINS], last[MOST_TRAINS];
     unsigned boxes[MOST_TRAINS][MOST_TRAINS];
+    unsigned sets[MOST_TRAINS]; /* the group of each train in the file, 0 for none */
     unsigned tenths; /* the probability of a pair's boxes, where they are drawn */
     char text[MOST_TEXT];
     size_t length;
@@ -124,6 +125,13 @@ static void narrow_windows(struct day *d)
     }
 }
 
+/* Three groups of three trains: 1, 4 and 7 in the first, and so on; the trains from 10 on have none. */
+static void group_trains(struct day *d)
+{
+    for (unsigned i = 0; i < 9; i++)
+        d->sets[i] = i % 3 + 1;
+}
+
 static void add_line(struct day *d, const char *line)
 {
     size_t length = strlen(line);
@@ -131,6 +139,22 @@ static void add_line(struct day *d, const char *line)
         fail(d->name, "the text is too long");
     memcpy(d->text + d->length, line, length);
     d->length += length;
+}
+
+/* The fourth section, where the day has groups. */
+static void write_groups(struct day *d)
+{
+    char line[64];
+    const char *names = "group train\n";
+    for (unsigned group = 1; group <= 12; group++) {
+        for (unsigned i = 0; i < d->trains; i++) {
+            if (d->sets[i] == group) {
+                snprintf(line, sizeof line, "%s%u %u\n", names, group, i + 1);
+                add_line(d, line);
+                names = "";
+            }
+        }
+    }
 }
 
 static void write_text(struct day *d)
@@ -153,6 +177,15 @@ static void write_text(struct day *d)
             }
         }
     }
+    write_groups(d);
+}
+
+/* A day with boxes by the formula and three groups. */
+static void add_sets(enum group group, const char *name, unsigned tracks, unsigned slots)
+{
+    struct day *d = new_day(group, name, 12, tracks, slots);
+    fill_boxes(d);
+    group_trains(d);
 }
 
 static void make_days(void)
@@ -161,6 +194,7 @@ static void make_days(void)
     fill_boxes(new_day(MAIN, "open", 12, 12, 8));
     fill_boxes(new_day(MAIN, "tight", 12, 2, 8));
     fill_boxes(new_day(MAIN, "paper", 12, 3, 4));
+    add_sets(MAIN, "sets", 12, 8);
     for (unsigned tenths = 2; tenths <= 8; tenths += 2) {
         for (unsigned k = 1; k <= PER_PROBABILITY; k++) {
             snprintf(name, sizeof name, "p%u-%u", tenths, k);
@@ -174,7 +208,9 @@ static void make_days(void)
     struct day *d = new_day(WINDOWS, "windows", 12, 3, 7);
     draw_boxes(d, 5, 30000);
     narrow_windows(d);
-    fill_boxes(new_day(REFUSED, "refused", 12, 1, 8));
+    add_sets(SETS, "paper-sets", 3, 4);
+    fill_boxes(new_day(OVERBOOKED, "overbooked", 12, 1, 8));
+    add_sets(UNKEPT, "unkept", 2, 8);
     for (size_t k = 0; k < day_count; k++)
         write_text(&days[k]);
 }
@@ -191,12 +227,20 @@ static size_t answer_into(const struct function *f, const struct day *d, uint8_t
     return bytes;
 }
 
+/* How the answer to a day must begin. */
+static const char *expected_start(enum group group)
+{
+    if (group == OVERBOOKED)
+        return "refusal first last trains\n";
+    return group == UNKEPT ? "refusal line\n16 0\n" : "revisits splits cost\n";
+}
+
 static void check_day(const struct day *d)
 {
     uint8_t proved[YARD_ANSWER_BYTES], other[YARD_ANSWER_BYTES];
     char what[64];
     size_t bytes = answer_into(&functions[PROVED], d, proved);
-    const char *begin = d->group == REFUSED ? "refusal first last trains\n" : "revisits splits cost\n";
+    const char *begin = expected_start(d->group);
     if (bytes < strlen(begin) || memcmp(proved, begin, strlen(begin)) != 0)
         fail(d->name, "the answer is of another kind than the day was made for");
     for (size_t k = 1; k < FUNCTIONS; k++) {
@@ -352,6 +396,7 @@ static int compare(unsigned rounds)
     print_published();
     print_growth();
     print_group(WINDOWS, "windows of two slots: probability 0.5");
+    print_group(SETS, "three groups of three trains");
     return 0;
 }
 

@@ -33,6 +33,7 @@ struct day {
     uint32_t numbers[WIDTH];
     uint8_t first[WIDTH], last[WIDTH];
     uint8_t boxes[WIDTH * WIDTH];
+    uint8_t groups[WIDTH]; /* 0 for none */
 };
 
 struct value {
@@ -53,9 +54,11 @@ static int is_sound(const struct day *d)
                 return 0;
             if (d->first[i] < 1 || d->first[i] > d->last[i] || d->last[i] > d->slots)
                 return 0;
-        } else if (d->numbers[i] != 0 || d->first[i] != 0 || d->last[i] != 0) {
+        } else if (d->numbers[i] != 0 || d->first[i] != 0 || d->last[i] != 0 || d->groups[i] != 0) {
             return 0;
         }
+        if (d->groups[i] > 12)
+            return 0;
         for (size_t j = 0; j < WIDTH; j++)
             if (d->boxes[i * WIDTH + j] != 0 && (i >= n || j >= n || i == j))
                 return 0;
@@ -135,13 +138,36 @@ static void add_train(uint32_t *price, const uint8_t *boxes, size_t n, size_t k,
     }
 }
 
-static void fill_price(uint32_t *price, const uint8_t *boxes, size_t n, size_t size, uint32_t tracks, uint32_t split)
+static void fill_price(uint32_t *price, const struct day *d, size_t size)
 {
     price[0] = 0;
-    for (size_t k = 0, below = 1; k < n; k++, below += below)
-        add_train(price, boxes, n, k, below);
+    for (size_t k = 0, below = 1; k < d->trains; k++, below += below)
+        add_train(price, d->boxes, d->trains, k, below);
     for (size_t s = 0; s < size; s++)
-        price[s] = (uint32_t)__builtin_popcountll(s) <= tracks ? split * price[s] : BARRED;
+        price[s] = (uint32_t)__builtin_popcountll(s) <= d->tracks ? d->split * price[s] : BARRED;
+}
+
+/* The trains in the group of position i. */
+static size_t members_of(const struct day *d, size_t i)
+{
+    size_t set = 0;
+    for (size_t j = 0; j < d->trains; j++)
+        if (d->groups[i] == d->groups[j])
+            set |= (size_t)1 << j;
+    return set;
+}
+
+/* Bars the sets that part a group. */
+static void bar_groups(uint32_t *price, const struct day *d, size_t size)
+{
+    for (size_t i = 0; i < d->trains; i++) {
+        if (d->groups[i] == 0)
+            continue;
+        size_t members = members_of(d, i);
+        for (size_t s = 0; s < size; s++)
+            if ((s & members) != 0 && (s & members) != members)
+                price[s] = BARRED;
+    }
 }
 
 static void fill_open(uint64_t *opens, const struct day *d)
@@ -301,9 +327,10 @@ static struct value value_slots(const struct day *d, const uint8_t *row)
     return v;
 }
 
-/* ---- planning, as planning::plan on a day that has a plan */
+/* ---- planning, as planning::plan on a day without an overbooked stretch */
 
-static struct value plan(const struct day *d, uint8_t *row)
+/* Answers 0 where no row keeps the groups, else 1, the row and its value. */
+static int plan(const struct day *d, uint8_t *row, struct value *v)
 {
     uint64_t cost[SETS] ZEROS;
     uint16_t choice[SLOTS * SETS] ZEROS;
@@ -313,11 +340,15 @@ static struct value plan(const struct day *d, uint8_t *row)
     size_t size = (size_t)1 << d->trains;
     fill_needing(need, d->boxes, d->trains);
     fill_late(late, d->revisit, d->trains);
-    fill_price(price, d->boxes, d->trains, size, d->tracks, d->split);
+    fill_price(price, d, size);
+    bar_groups(price, d, size);
     fill_open(opens, d);
     solve(cost, choice, need, late, price, opens, d->tracks, d->slots, size);
+    if (cost[size - 1] == NONE)
+        return 0;
     trace(choice, row, d->trains, d->slots, size);
-    return value_slots(d, row);
+    *v = value_slots(d, row);
+    return 1;
 }
 
 /* ---- reading a day file, as dayread::read_day on a text that it accepts */
@@ -347,6 +378,16 @@ static size_t position_of(const struct day *d, uint32_t number)
     return i;
 }
 
+/* From the names line `group train` to the end. */
+static void read_groups(struct day *d, const uint8_t *at, const uint8_t *end)
+{
+    at = after_line(at);
+    while (at < end) {
+        uint8_t group = (uint8_t)read_value(&at);
+        d->groups[position_of(d, read_value(&at))] = group;
+    }
+}
+
 static void read_day(struct day *d, const uint8_t *text, size_t length)
 {
     const uint8_t *end = text + length;
@@ -364,11 +405,13 @@ static void read_day(struct day *d, const uint8_t *text, size_t length)
         d->last[i] = (uint8_t)read_value(&at);
     }
     at = after_line(at);
-    while (at < end) {
+    while (at < end && *at != 'g') {
         size_t to = position_of(d, read_value(&at));
         size_t from = position_of(d, read_value(&at));
         d->boxes[to * WIDTH + from] = (uint8_t)read_value(&at);
     }
+    if (at < end)
+        read_groups(d, at, end);
 }
 
 /* ---- printing, as crates/planfile and crates/answering */
@@ -403,6 +446,11 @@ static uint8_t *put_interval(uint8_t *at, struct interval found)
     return put_value(at, found.trains, '\n');
 }
 
+static uint8_t *put_unkept(uint8_t *at)
+{
+    return put_bytes(at, "refusal line\n16 0\n");
+}
+
 static uint8_t *put_plan(uint8_t *at, const struct day *d, const uint8_t *row, struct value v)
 {
     at = put_bytes(at, "revisits splits cost\n");
@@ -423,13 +471,16 @@ static size_t put_answer(const uint8_t *text, size_t length, uint8_t *reply)
 {
     struct day d;
     struct interval found;
+    struct value v;
     uint8_t row[WIDTH] = {0};
     read_day(&d, text, length);
     if (!is_sound(&d))
         return 0; /* no day file: outside what this program is for */
     if (first_overbooked(&d, &found))
         return (size_t)(put_interval(reply, found) - reply);
-    return (size_t)(put_plan(reply, &d, row, plan(&d, row)) - reply);
+    if (!plan(&d, row, &v))
+        return (size_t)(put_unkept(reply) - reply);
+    return (size_t)(put_plan(reply, &d, row, v) - reply);
 }
 
 uint64_t ANSWER(const uint8_t *text, size_t text_length, uint8_t *out, size_t out_length, size_t *bytes);

@@ -12,7 +12,7 @@
 
 #include "yard.h"
 
-/* No day file has more than 2,317 bytes, so the first 4,096 of a longer text are refused as well. */
+/* No day file has more than 2,437 bytes, so the first 4,096 of a longer text are refused as well. */
 enum { MOST_TEXT = 4096 };
 
 /* Reads the first MOST_TEXT bytes of a file. Returns 0 where it cannot be read. */
@@ -31,11 +31,14 @@ static int read_file(const char *name, uint8_t *text, size_t *length)
     return good;
 }
 
-/* Prints a refusal in words: of reading its line, of planning the stretch of slots that is overbooked. */
+/* Prints a refusal in words: of reading (1 to 7, 15) its line, of planning the stretch of slots that is overbooked, or that there is none
+ * and the groups are what cannot be kept. */
 static void print_refusal(uint64_t refusal, const uint64_t numbers[3])
 {
     if (refusal == 9)
         printf("no plan: %" PRIu64 " trains are bound to the slots %" PRIu64 " to %" PRIu64 "\n", numbers[2], numbers[0], numbers[1]);
+    else if (refusal == 16)
+        printf("no plan keeps the groups\n");
     else
         printf("no day file: refusal %" PRIu64 ", line %" PRIu64 "\n", refusal, numbers[0]);
 }
@@ -72,7 +75,7 @@ int main(int argc, char **argv)
     for (size_t i = 0; i < trains; i++)
         printf("train %zu of the day file: slot %u\n", i + 1, row[i]);
 
-    /* a row of one's own: 0 with its numbers, or 12 or 13 with the position or the slot at fault */
+    /* a row of one's own: 0 with its numbers, or 12, 13 or 17 with the position, the slot or the group at fault */
     memset(row, 1, trains);
     refusal = yard_value(text, length, row, trains, numbers, 3);
     if (refusal == 0)

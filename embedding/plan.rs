@@ -1,4 +1,5 @@
-//! Plans a day from Rust, through the C interface: reads a day file, prints the answer, then checks the text and values P1's row.
+//! Plans a day from Rust, through the C interface: reads a day file, prints the answer, then checks the text, plans it as slots and values
+//! P1's row; what is refused it says in words.
 //!
 //!     rt staticlib yard
 //!     rustc -O --edition 2021 -L target/staticlib -o target/plan_rs embedding/plan.rs
@@ -11,6 +12,15 @@ mod sys {
     #[link(name = "yard", kind = "static")]
     extern "C" {
         pub fn yard_answer(text: *const u8, text_length: usize, out: *mut u8, out_length: usize, bytes: *mut usize) -> u64;
+        pub fn yard_plan(
+            text: *const u8,
+            text_length: usize,
+            row: *mut u8,
+            row_length: usize,
+            numbers: *mut u64,
+            numbers_length: usize,
+            trains: *mut usize,
+        ) -> u64;
         pub fn yard_check(text: *const u8, text_length: usize, line: *mut u64) -> u64;
         pub fn yard_value(
             text: *const u8,
@@ -24,14 +34,27 @@ mod sys {
 }
 
 /// A refusal: its number and what it carries.
-#[derive(Debug)]
 struct Refusal {
     number: u64,
     carries: [u64; 3],
 }
 
-/// Bytes that suffice for every answer, YARD_ANSWER_BYTES of yard.h.
+impl std::fmt::Display for Refusal {
+    fn fmt(&self, words: &mut std::fmt::Formatter) -> std::fmt::Result {
+        let [first, last, trains] = self.carries;
+        match self.number {
+            1..=7 | 15 => write!(words, "no day file: refusal {}, line {first}", self.number),
+            9 => write!(words, "no plan: {trains} trains are bound to the slots {first} to {last}"),
+            16 => write!(words, "no plan keeps the groups"),
+            17 => write!(words, "the row parts group {first}"),
+            number => write!(words, "refusal {number}, {first}"),
+        }
+    }
+}
+
+/// Bytes that suffice for every answer, YARD_ANSWER_BYTES of yard.h, and trains that a day has at most.
 const ANSWER_BYTES: usize = 148;
+const MOST_TRAINS: usize = 12;
 
 /// What yard-plan prints for a text.
 fn answer(text: &[u8]) -> Vec<u8> {
@@ -53,6 +76,19 @@ fn check(text: &[u8]) -> Result<(), Refusal> {
     }
 }
 
+/// The slots of the plan, in the order of the day file.
+fn plan(text: &[u8]) -> Result<Vec<u8>, Refusal> {
+    let (mut row, mut numbers, mut trains) = (vec![0u8; MOST_TRAINS], [0u64; 3], 0usize);
+    let (slots, three) = (row.as_mut_ptr(), numbers.as_mut_ptr());
+    match unsafe { sys::yard_plan(text.as_ptr(), text.len(), slots, MOST_TRAINS, three, numbers.len(), &mut trains) } {
+        0 => {
+            row.truncate(trains);
+            Ok(row)
+        }
+        number => Err(Refusal { number, carries: numbers }),
+    }
+}
+
 /// Revisits, split moves and cost of a row of slots.
 fn value(text: &[u8], row: &[u8]) -> Result<[u64; 3], Refusal> {
     let mut numbers = [0u64; 3];
@@ -63,13 +99,20 @@ fn value(text: &[u8], row: &[u8]) -> Result<[u64; 3], Refusal> {
     }
 }
 
+/// Prints what the functions give for a text, up to the first refusal.
+fn print_results(text: &[u8]) -> Result<(), Refusal> {
+    check(text)?;
+    println!("slots {:?}", plan(text)?);
+    println!("row 2 1 1 2: {:?}", value(text, &[2, 1, 1, 2])?);
+    Ok(())
+}
+
 fn main() -> std::io::Result<()> {
     let name = std::env::args().nth(1).expect("usage: plan_rs DAY");
     let text = std::fs::read(name)?;
     std::io::stdout().write_all(&answer(&text))?;
-    match check(&text) {
-        Ok(()) => println!("row 2 1 1 2: {:?}", value(&text, &[2, 1, 1, 2])),
-        Err(refusal) => println!("no day file: refusal {}, line {}", refusal.number, refusal.carries[0]),
+    if let Err(refusal) = print_results(&text) {
+        println!("{refusal}");
     }
     Ok(())
 }

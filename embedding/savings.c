@@ -15,6 +15,18 @@ enum { MOST_TEXT = 4096 };
 
 typedef uint64_t procedure(const uint8_t *, size_t, uint64_t *, size_t, int64_t *);
 
+/* Prints a refusal: what concerns groups in words, else its number and the first that it carries. 14 with 0: each train has a slot, but not
+ * each group. */
+static void print_refusal(const char *name, uint64_t refusal, uint64_t carried)
+{
+    if (refusal == 16)
+        printf("%s: no plan keeps the groups\n", name);
+    else if (refusal == 14 && carried == 0)
+        printf("%s: parts a group\n", name);
+    else
+        printf("%s: refusal %" PRIu64 ", %" PRIu64 "\n", name, refusal, carried);
+}
+
 static void print_saving(const char *name, procedure *call, const uint8_t *text, size_t length)
 {
     uint64_t numbers[3];
@@ -24,7 +36,7 @@ static void print_saving(const char *name, procedure *call, const uint8_t *text,
         printf("%s: revisits %" PRIu64 ", splits %" PRIu64 ", cost %" PRIu64 "; planning saves %" PRId64 "\n", name, numbers[0], numbers[1],
                numbers[2], saving);
     else
-        printf("%s: refusal %" PRIu64 ", %" PRIu64 "\n", name, refusal, numbers[0]);
+        print_refusal(name, refusal, numbers[0]);
 }
 
 int main(void)

@@ -1,3 +1,4 @@
 pub mod Answering
 pub mod Laws
 pub mod Printed
+pub mod Before

@@ -25,8 +25,8 @@ use Rattle.day.specs.AnswerLaws.{gives-same, checked-gives, given-before, Only,
 use Rattle.day.specs.Sound.{sound}
 use Rattle.day.specs.declared.Limits.{Limits}
 use Rattle.counting.specs.Counting.{figures}
-use Rattle.planning.specs.Planning.{costWords, choiceWords, planned, begins, openWords, Stays}
-use Rattle.planning.specs.Answers.{NoRowRefusal, from-best, refuses-only, planned-only}
+use Rattle.planning.specs.Planning.{costWords, choiceWords, NoRowRefusal, planned, begins, openWords, Stays}
+use Rattle.planning.specs.Answers.{from-best, refuses-only, planned-only}
 use Rattle.procedures.specs.Procedures.{leftOver}
 use Rattle.procedures.specs.Complete.{first-fits, myopic-fits}
 use Rattle.comparing.specs.Comparing.{Comparison, comparisonOrZero, servedChecks, against}

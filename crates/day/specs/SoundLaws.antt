@@ -8,7 +8,7 @@ use native.Mathlib.Nat.{le-trans}
 use native.Mathlib.Omega.{arith}
 use lib.Dec.{T, ltb, leb, eqb, leb→le, ltb→lt, eqb→eq}
 use lib.ListN.{length, getD}
-use borrow.Author.Tests.{lt-ltb, le-ltb, eq-eqb}
+use borrow.Author.Tests.{lt-ltb, eq-eqb}
 use Rattle.fold.specs.Test.{of-true, both, both-of}
 use Rattle.fold.specs.Fold.{each, each-at}
 use Rattle.model.specs.Model.{Yard, received, firstSlot, lastSlot, groupOf}
@@ -141,18 +141,12 @@ module _ (l : Limits) (y : Yard) where
       let (inside, up) = both-of fields rises a in
       (inside, ltb→lt _ _ up, leb→le _ _ window)
 
-  -- the group of a position, of a train and where there is none
+  -- the group of a train's position
   pub group-used : (i : ℕ) → i < y .trains → T (groupSound l (y .trains) (y .groups) i) → groupOf (y .groups) i ≤ l .groups
   unfolding groupSound
   group-used i h t =
       leb→le (groupOf (y .groups) i) (l .groups)
       (subst (λ b. T (cond b (leb (groupOf (y .groups) i) (l .groups)) (eqb (groupOf (y .groups) i) 0))) (lt-ltb i (y .trains) h) t)
-
-  pub group-unused : (i : ℕ) → y .trains ≤ i → T (groupSound l (y .trains) (y .groups) i) → groupOf (y .groups) i ≡ 0
-  unfolding groupSound
-  group-unused i h t =
-      eqb→eq (groupOf (y .groups) i) 0
-      (subst (λ b. T (cond b (leb (groupOf (y .groups) i) (l .groups)) (eqb (groupOf (y .groups) i) 0))) (le-ltb i (y .trains) h) t)
 
   -- the boxes of a pair, of the same train too
   pair-limit : (i j : ℕ) → T (pairSound l (y .trains) (y .width) (y .boxes) i j) → received y i j ≤ l .boxes

@@ -14,8 +14,7 @@ use Rattle.day.specs.declared.Limits.{Limits}
 use Rattle.output.specs.Output.{writes, leaves}
 use Rattle.output.specs.Laws.{fits, Filled, filled}
 use Rattle.dayfile.specs.Reading.{readDay}
-use Rattle.dayfile.specs.Writing.{dayText}
-use Rattle.dayfile.specs.Sections.{Short}
+use Rattle.dayfile.specs.Writing.{dayText, Short}
 use Rattle.dayfile.specs.RoundTrip.{write-read, read-write, read-sound}
 
 -- ---- reading: the day, or with a refusal a record of zeros

@@ -16,8 +16,8 @@ use Rattle.lines.specs.Lines.{rowText, rowsText}
 use Rattle.lines.specs.Laws.{Small}
 use Rattle.dayfile.specs.Reading.{headNames, trainNames, moveNames, headChecks, readNames, readTrains, headSection, trainSection, moveSection, groupSection, File, numbersOf, readFile}
 use Rattle.dayfile.specs.LineLaws.{names-line, names-line-read, row-line, row-line-read}
-use Rattle.dayfile.specs.Writing.{groupsText, fileText}
-use Rattle.dayfile.specs.Sections.{FineTrains, FineMoves, FineGroups, Short, small, trains-written, trains-read, moves-written, moves-read, groups-next, section-written, section-read}
+use Rattle.dayfile.specs.Writing.{groupsText, fileText, Short}
+use Rattle.dayfile.specs.Sections.{FineTrains, FineMoves, FineGroups, small, trains-written, trains-read, moves-written, moves-read, groups-next, section-written, section-read}
 
 -- ---- a file whose rows keep the rules
 

@@ -24,8 +24,8 @@ use Rattle.day.specs.Sound.{dayLimits, headRanges, trainRow, trainSound, unused
 use Rattle.day.specs.SoundLaws.{Within, within-is, Shaped, Sound, sound-tests, tests-sound, shaped-is, is-shaped, sound-is}
 use Rattle.day.specs.declared.Limits.{Limits}
 use Rattle.dayfile.specs.Reading.{field1, field2, field3, File, numbersOf, readFile, padded, position, placeOf, storedMoves, storedGroups, dayOf, readDay}
-use Rattle.dayfile.specs.Writing.{fileText, moveRows, memberRows, groupRows, fileOf, dayText}
-use Rattle.dayfile.specs.Sections.{FineTrains, FineMoves, FineGroups, Short}
+use Rattle.dayfile.specs.Writing.{fileText, moveRows, memberRows, groupRows, fileOf, dayText, Short}
+use Rattle.dayfile.specs.Sections.{FineTrains, FineMoves, FineGroups}
 use Rattle.dayfile.specs.Files.{Fine, file-written, file-read}
 use Rattle.dayfile.specs.Trains.{padded-at, length-padded, trains-at, Rising, rising, InLimits, in-limits, train-row, positions-sound, rows-fine, column-back}
 use Rattle.dayfile.specs.Stored.{length-stored}

@@ -20,7 +20,7 @@ use Rattle.lines.specs.Lines.{rowText, rowsText}
 use Rattle.lines.specs.Laws.{names-written, Small}
 use Rattle.dayfile.specs.Reading.{groupNames, field1, field2, trainChecks, moveChecks, groupChecks, readNames, isEnd, readRow, Rows, addRow, readTrains, movesEnd, readMoves, readGroups, groupSection}
 use Rattle.dayfile.specs.LineLaws.{names-line, names-line-read, row-line, row-line-read, row-longer, moves-end, moves-row, groups-end, groups-row}
-use Rattle.dayfile.specs.Writing.{groupsText}
+use Rattle.dayfile.specs.Writing.{groupsText, Short}
 
 -- ---- rows that keep the rules
 
@@ -46,17 +46,6 @@ is-within (r ∷ ranges) [] w = absurd w
 is-within (r ∷ ranges) (v ∷ values) w =
     both (between r v) (within ranges values)
     (both (leb (r .least) v) (leb v (r .greatest)) (le→leb (r .least) v (w .0 .0)) (le→leb v (r .greatest) (w .0 .1))) (is-within ranges values (w .1))
-
--- ---- limits of at most five digits, so that every value can be written
-
-pub record Short (l : Limits) : Type 0 where
-  pub trains : l .trains ≤ 99999
-  pub tracks : l .tracks ≤ 99999
-  pub slots : l .slots ≤ 99999
-  pub weight : l .weight ≤ 99999
-  pub number : l .number ≤ 99999
-  pub boxes : l .boxes ≤ 99999
-  pub groups : l .groups ≤ 99999
 
 abbrev pub ShortRanges : List Range → Type 0
 ShortRanges [] = Unit

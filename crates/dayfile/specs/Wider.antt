@@ -21,8 +21,8 @@ use Rattle.day.specs.Sound.{dayLimits, within, headRanges, trainRanges, trainRo
 use Rattle.day.specs.SoundLaws.{within-is, sound-tests, tests-sound, sound-is}
 use Rattle.day.specs.declared.Limits.{Limits}
 use Rattle.dayfile.specs.Reading.{readDay}
-use Rattle.dayfile.specs.Writing.{memberRows, groupRows, fileOf, dayText}
-use Rattle.dayfile.specs.Sections.{is-within, Short}
+use Rattle.dayfile.specs.Writing.{memberRows, groupRows, fileOf, dayText, Short}
+use Rattle.dayfile.specs.Sections.{is-within}
 use Rattle.dayfile.specs.RoundTrip.{write-read, read-sound, read-write, day-short}
 
 -- the same limits but for train numbers, which go up to k, and groups, which go up to j

@@ -2,7 +2,7 @@
 -- Assumes nothing.
 use mathlib.Core.Bool.{cond}
 use mathlib.Core.List.{List, [], _∷_, _++_}
-use Prim.Native.Nat.{ℕ, suc, _*_, _/_, _%_}
+use Prim.Native.Nat.{ℕ, suc, _*_, _/_, _%_, _≤_}
 use lib.Dec.{eqb}
 use lib.ListN.{getD}
 use Rattle.fold.specs.Listed.{listed, joined}
@@ -50,3 +50,14 @@ fileOf l y = record {
 
 unfoldable pub dayText : Limits → Yard → List ℕ
 dayText l y = fileText (fileOf l y)
+
+-- ---- limits of at most five digits, so that every value can be written
+
+pub record Short (l : Limits) : Type 0 where
+  pub trains : l .trains ≤ 99999
+  pub tracks : l .tracks ≤ 99999
+  pub slots : l .slots ≤ 99999
+  pub weight : l .weight ≤ 99999
+  pub number : l .number ≤ 99999
+  pub boxes : l .boxes ≤ 99999
+  pub groups : l .groups ≤ 99999

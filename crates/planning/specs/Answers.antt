@@ -23,13 +23,9 @@ use Rattle.day.specs.AnswerLaws.{gives-same, checked-holds, checked-gives, Only
 use Rattle.day.specs.Sound.{dayLimits, sound}
 use Rattle.day.specs.SoundLaws.{sound-is}
 use Rattle.day.specs.declared.Limits.{Limits}
-use Rattle.planning.specs.Planning.{costWords, choiceWords, costArea, choiceArea, suffices, noRow, bestAnswer, planChecks, planned, begins, placed, rowAfter}
+use Rattle.planning.specs.Planning.{costWords, choiceWords, costArea, choiceArea, suffices, noRow, NoRowRefusal, bestAnswer, planChecks, planned, begins, placed, rowAfter}
 
 -- ---- where no row is allowed
-
--- 9 or 16
-abbrev pub NoRowRefusal : ℕ → Type 0
-NoRowRefusal k = (k ≡ 9) ⊎ (k ≡ 16)
 
 -- it is handed on as it is
 pub none-answer : (y : Yard) → bestAnswer y none ≡ noRow y (firstOverbooked y)

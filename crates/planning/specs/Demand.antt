@@ -37,8 +37,8 @@ use Rattle.day.specs.SoundLaws.{sound-is}
 use Rattle.day.specs.declared.Limits.{Limits}
 use Rattle.feasibility.specs.NoRow.{no-row}
 use Rattle.feasibility.specs.RowOrNone.{none-spacious, some-over, no-row-over}
-use Rattle.planning.specs.Planning.{costWords, choiceWords, suffices, begins, noRow, bestAnswer, planned, placed, rowAfter, openWords, Stays}
-use Rattle.planning.specs.Answers.{NoRowRefusal, none-answer, best-refuses, none-gives, planned-begun, row-begun}
+use Rattle.planning.specs.Planning.{costWords, choiceWords, suffices, begins, noRow, bestAnswer, NoRowRefusal, planned, placed, rowAfter, openWords, Stays}
+use Rattle.planning.specs.Answers.{none-answer, best-refuses, none-gives, planned-begun, row-begun}
 
 -- ---- the memory named in 01
 

@@ -4,6 +4,7 @@
 use mathlib.Core.Path.{_≡_}
 use mathlib.Core.Bool.{Bool, cond, _&&_}
 use mathlib.Core.List.{List, [], _∷_, _++_}
+use mathlib.Core.Logic.{_⊎_}
 use mathlib.Core.Option.{Option, none, some}
 use Prim.Native.Nat.{ℕ, _*_, _^_}
 use lib.Dec.{leb}
@@ -49,6 +50,10 @@ suffices y costs choices bytes = leb (costWords y) costs && leb (choiceWords y) 
 abbrev pub noRow : {X : Type 0} → Yard → Option Interval → Answer X
 noRow y (some w) = refuses 9 (w .first ∷ w .last ∷ boundInside y (w .first) (w .last) ∷ [])
 noRow y none = refuses 16 (0 ∷ [])
+
+-- the number of such a refusal
+abbrev pub NoRowRefusal : ℕ → Type 0
+NoRowRefusal k = (k ≡ 9) ⊎ (k ≡ 16)
 
 -- the best row, or the refusal where there is none
 abbrev pub bestRow : Yard → Option (List ℕ) → Answer (List ℕ)

@@ -5,10 +5,9 @@ use mathlib.Core.List.{List}
 use Prim.Native.Nat.{ℕ, suc, _+_, _^_, _≤_, _<_}
 use native.Mathlib.Nat.{pow-suc}
 use native.Mathlib.Omega.{arith}
-use lib.ListN.{length, set, drop, getD}
+use lib.ListN.{length, set}
 use lib.Pow.{pow-mono}
-use lib.Seq.{getD-drop}
-use Rattle.optimum.specs.Workspace.{at, Kept, kept-then}
+use Rattle.optimum.specs.Workspace.{at, kept-then}
 use Rattle.staging.specs.Tables.{fromOutside}
 use Rattle.prices.specs.Entries.{withPair, priceOf, splitCost}
 use Rattle.tables.specs.Filled.{Filled, Added, filled-none, filled-next, filled-end, added-filled}

@@ -24,8 +24,8 @@ use Rattle.day.specs.declared.Limits.{Limits}
 use Rattle.dayfile.specs.Reading.{readDay}
 use Rattle.dayfile.specs.RoundTrip.{read-sound}
 use Rattle.feasibility.specs.RowOrNone.{none-spacious}
-use Rattle.planning.specs.Planning.{costWords, choiceWords, noRow, bestAnswer, planned, begins, placed, rowAfter, Stays}
-use Rattle.planning.specs.Answers.{NoRowRefusal, none-answer, planned-begun, row-begun, refuses-only}
+use Rattle.planning.specs.Planning.{costWords, choiceWords, noRow, bestAnswer, NoRowRefusal, planned, begins, placed, rowAfter, Stays}
+use Rattle.planning.specs.Answers.{none-answer, planned-begun, row-begun, refuses-only}
 use Rattle.planning.specs.Demand.{memory-suffices, memory-after}
 use Rattle.telling.specs.Telling.{dayFor}
 use Rattle.telling.specs.Laws.{with-room}

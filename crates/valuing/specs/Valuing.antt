@@ -7,12 +7,11 @@ use Prim.Native.Nat.{ℕ, suc}
 use lib.Dec.{eqb}
 use lib.ListN.{length}
 use Rattle.fold.specs.Fold.{each, lowest}
-use Rattle.model.specs.Model.{Yard, Outcome, outcome, inWindow, roomy, kept}
+use Rattle.model.specs.Model.{Yard, Outcome, outcome, inWindow, roomy, kept, parted}
 use Rattle.day.specs.Sound.{sound}
 use Rattle.day.specs.Answer.{Answer, gives, refusal, Check, must, checked}
 use Rattle.day.specs.declared.Limits.{Limits}
 use Rattle.counting.specs.Counting.{outcomeOf}
-use Rattle.wagon_sets.specs.Laws.{parts}
 use Rattle.valuing.specs.declared.Valued.{Valued}
 use Rattle.valuing.specs.declared.Valued.the-variants.{Values, Refused}
 
@@ -38,7 +37,7 @@ slotChecks l y row =
     must (eqb (length row) (y .trains)) 11 (0 ∷ [])
     ∷ must (each (y .trains) (inWindow (y .first) (y .last) row)) 12 (suc (lowest (y .trains) (strays (y .first) (y .last) row)) ∷ [])
     ∷ must (each (y .slots) λ t. roomy (y .trains) (y .tracks) row (suc t)) 13 (suc (lowest (y .slots) (overfull (y .trains) (y .tracks) row)) ∷ [])
-    ∷ must (kept (y .trains) (y .groups) row) 17 (suc (lowest (l .groups) (parts (y .trains) (y .groups) row)) ∷ [])
+    ∷ must (kept (y .trains) (y .groups) row) 17 (suc (lowest (l .groups) λ g. parted (y .trains) (y .groups) row (suc g)) ∷ [])
     ∷ []
 
 -- a row of a sound day

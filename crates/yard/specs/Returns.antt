@@ -44,7 +44,7 @@ use Rattle.text_value.specs.TextValue.{line, valueText}
 use Rattle.text_savings.specs.TextSavings.{compareText}
 
 -- what reading a text returns: 0, or its refusal
-abbrev pub OfReading : ℕ → Type 0
+abbrev OfReading : ℕ → Type 0
 OfReading k = (k ≤ 7) ⊎ (k ≡ 15)
 
 of-reading : (k : ℕ) → FileRefusal k → OfReading k
@@ -61,7 +61,7 @@ returned own (gives x) h = inl (inl zero-le)
 returned own (refuses k carries) h = h
 
 module _ (text : List ℕ) where
-  pub check-returns : OfReading (code (readDay dayLimits text))
+  pub check-returns : let k = code (readDay dayLimits text) in (k ≤ 7) ⊎ (k ≡ 15)
   check-returns = go (readDay dayLimits text) (read-lined dayLimits text)
     where
       go : (a : Answer Yard) → Only Lined a → OfReading (code a)
@@ -78,17 +78,17 @@ module _ (text : List ℕ) where
       λ y e. only-wider (λ k carries. own k) (Or own) (f y) (λ k carries q. inr q) (g y (read-sound dayLimits text y e))))
 
   module _ (size : ℕ) (room : 3 ≤ size) where
-    pub value-returns : (row : List ℕ) → let k = code (valueText dayLimits text row size) in OfReading k ⊎ (((11 ≤ k) × (k ≤ 13)) ⊎ (k ≡ 17))
+    pub value-returns : (row : List ℕ) → let k = code (valueText dayLimits text row size) in ((k ≤ 7) ⊎ (k ≡ 15)) ⊎ (((11 ≤ k) × (k ≤ 13)) ⊎ (k ≡ 17))
     unfolding valueText
     value-returns row = for-sound (λ k. ((11 ≤ k) × (k ≤ 13)) ⊎ (k ≡ 17)) size (λ y. valued dayLimits y row) room λ y s. valued-only dayLimits y row s
 
-    pub compare-returns : (procedure : Yard → List ℕ) → let k = code (compareText procedure dayLimits text size) in OfReading k ⊎ (((k ≡ 9) ⊎ (k ≡ 16)) ⊎ (k ≡ 14))
+    pub compare-returns : (procedure : Yard → List ℕ) → let k = code (compareText procedure dayLimits text size) in ((k ≤ 7) ⊎ (k ≡ 15)) ⊎ (((k ≡ 9) ⊎ (k ≡ 16)) ⊎ (k ≡ 14))
     unfolding compareText
     compare-returns procedure =
         for-sound (λ k. ((k ≡ 9) ⊎ (k ≡ 16)) ⊎ (k ≡ 14)) size (λ y. compared dayLimits y (procedure y) costArea choiceArea) room
         λ y s. compared-only dayLimits y costArea choiceArea (procedure y) (areas-suffice y (y .trains) s (omega arith))
 
-    pub plan-returns : (bytes : ℕ) → 12 ≤ bytes → let k = code (planFor dayLimits text costArea choiceArea bytes size) in OfReading k ⊎ ((k ≡ 9) ⊎ (k ≡ 16))
+    pub plan-returns : (bytes : ℕ) → 12 ≤ bytes → let k = code (planFor dayLimits text costArea choiceArea bytes size) in ((k ≤ 7) ⊎ (k ≡ 15)) ⊎ ((k ≡ 9) ⊎ (k ≡ 16))
     unfolding planFor
     plan-returns bytes long =
         for-sound (λ k. (k ≡ 9) ⊎ (k ≡ 16)) size (λ y. planned dayLimits y costArea choiceArea bytes) room

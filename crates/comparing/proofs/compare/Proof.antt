@@ -1,16 +1,14 @@
 -- `comparing::compare` meets its contract: 14 where a train is left over, 14 with 0 where a group is parted, else the row's numbers, of which
 -- the cost fits.
 -- Assumes nothing.
-use mathlib.Core.Path.{_≡_, sym, ap, _∙_, subst}
+use mathlib.Core.Path.{_≡_, sym, _∙_, subst}
 use mathlib.Core.Bool.{true, false}
-use Prim.Native.Nat.{ℕ, _≤_, _<_}
+use Prim.Native.Nat.{_≤_, _<_}
 use native.Mathlib.Omega.{arith}
-use lib.ListN.{length}
 use mir.Facts.{toZ-ofZ}
 use mir.Syntax.{w64}
 use mir.Val.{SFits}
 use denote.Ref.{now}
-use Rattle.fold.specs.Fold.{lowest}
 use Rattle.model.specs.Model.{kept}
 use Rattle.model.specs.Groups.{GroupsUpTo, parted-parts, unparted-keeps}
 use Rattle.day.specs.Sound.{dayLimits, yard}

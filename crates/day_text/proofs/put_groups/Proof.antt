@@ -11,7 +11,7 @@ use Rattle.fold.specs.Listed.{joined}
 use Rattle.decimal.specs.Place.{Put}
 use Rattle.decimal.specs.PlaceLaws.{put-text}
 use Rattle.dayfile.specs.Reading.{groupNames}
-use Rattle.day_text.specs.Writes.{groupText, hasGroups, setsText}
+use Rattle.day_text.specs.Writes.{groupText, setsText}
 use Rattle.day_text.specs.Laws.{group-text, sets-none, sets-some}
 use Rattle.output.specs.Laws.{put-none, put-more, put-end, names-fit, row-fits}
 use borrow.Author.Needs.{needs}

@@ -1,7 +1,7 @@
 -- `placing::place_trains` meets its contract. The value that stands for all trains decides: where there is one, the choices lead to the best
 -- row; where there is none, no row is allowed.
 -- Assumes nothing.
-use mathlib.Core.Path.{_≡_, refl, sym, ap, _∙_, subst}
+use mathlib.Core.Path.{refl, sym, ap, _∙_, subst}
 use mathlib.Core.Option.{some}
 use Prim.Native.Nat.{_-_, _≤_, _<_, _*_}
 use native.Mathlib.Omega.{arith}

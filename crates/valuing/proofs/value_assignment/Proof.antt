@@ -1,6 +1,6 @@
 -- `valuing::value_assignment` meets its contract: check 8, then `value_row` on the record's head and arrays.
 -- Assumes nothing.
-use mathlib.Core.Path.{_≡_, sym, ap, _∙_}
+use mathlib.Core.Path.{_≡_, sym, _∙_}
 use mathlib.Core.Bool.{true}
 use mathlib.Core.List.{[]}
 use native.Mathlib.Omega.{arith}
@@ -9,7 +9,6 @@ use borrow.Author.Tests.{not-true, not-false}
 use Rattle.fold.specs.Test.{of-true}
 use Rattle.day.specs.Sound.{dayLimits, headOf, yard, sound}
 use Rattle.day.specs.SoundLaws.{Sound, sound-is}
-use Rattle.day.specs.declared.Head.{Head}
 use Rattle.valuing.specs.Laws.{says-unsound, says-sound, any-numbers}
 use borrow.Author.Needs.{needs}
 use Rattle.valuing.proofs.value_assignment.Statement.{statement}
