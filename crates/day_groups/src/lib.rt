@@ -32,8 +32,6 @@ fn read_group_rows(
     let mut train: u32 = 0;
     loop {
         match day_rows::read_group(l, text, p, line, numbers, n, groups, group, train) {
-            Line::Names { next: _ } | Line::End => return Step::Next(p),
-            Line::Refused(refusal) => return Step::Refused(refusal),
             Line::Row {
                 a,
                 b,
@@ -49,6 +47,8 @@ fn read_group_rows(
                 p = next;
                 line += 1;
             }
+            Line::Names { next: _ } | Line::End => return Step::Next(p),
+            Line::Refused(refusal) => return Step::Refused(refusal),
         }
     }
 }

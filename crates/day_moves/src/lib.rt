@@ -50,8 +50,6 @@ fn read_move_rows(
     let mut from: u32 = 0;
     loop {
         match day_rows::read_move(l, text, p, line, numbers, n, to, from) {
-            Line::Names { next: _ } | Line::End => return Moves::Next { at: p, line },
-            Line::Refused(refusal) => return Moves::Refused(refusal),
             Line::Row {
                 a,
                 b,
@@ -68,6 +66,8 @@ fn read_move_rows(
                 p = next;
                 line += 1;
             }
+            Line::Names { next: _ } | Line::End => return Moves::Next { at: p, line },
+            Line::Refused(refusal) => return Moves::Refused(refusal),
         }
     }
 }

@@ -32,10 +32,10 @@ turn c = c .before .before
 abbrev start : tie.After-read-group Inv-loop μ-loop → tie.Start Inv-loop μ-loop
 start c = turn c .before .before .before .before
 
-abbrev line : tie.After-known-told2 Inv-loop μ-loop → tie.After-read-group Inv-loop μ-loop
+abbrev line : tie.After-known-told Inv-loop μ-loop → tie.After-read-group Inv-loop μ-loop
 line c = c .before .before .before
 
-abbrev row : tie.After-narrow Inv-loop μ-loop → tie.After-known-told2 Inv-loop μ-loop
+abbrev row : tie.After-narrow Inv-loop μ-loop → tie.After-known-told Inv-loop μ-loop
 row c = c .before .before
 
 abbrev numbers : tie.Start Inv-loop μ-loop → List ℕ
@@ -60,12 +60,12 @@ told c is =
     subst (λ r. ReadsOrEnds 1 (isEnd (left c)) (start c .args .text .now) (answer c) r) is (c .read-group .ensures (g .taken) (g .marks))
 
 -- past the match a row was read
-said : (c : tie.After-known-told2 Inv-loop μ-loop)
+said : (c : tie.After-known-told Inv-loop μ-loop)
     → let r = c .before .a .given .0 in
     RowTo 1 (start (line c) .args .text .now) (answer (line c)) (r .0) (r .1 .0) (r .1 .1 .0) (r .1 .1 .1 .0) (r .1 .1 .1 .1 .0) (r .1 .1 .1 .1 .1 .0)
 said c = told (line c) (c .before .a .given .1)
 
-facts : (c : tie.After-known-told2 Inv-loop μ-loop)
+facts : (c : tie.After-known-told Inv-loop μ-loop)
     → let s = start (line c) in
     let r = c .before .a .given .0 in
     GroupRow (s .args .l) (numbers s) (r .0) (r .1 .0) (turn (line c) .loop .p) (r .1 .1 .1 .1 .1 .0)
@@ -99,25 +99,6 @@ loop-holds c =
 read-group-requires : tie.Need-read-group-requires Inv-loop μ-loop
 read-group-requires c κs = let s = c .before .before .before .before .before in (s .pre .1 .1 .0, omega (arith, c .before .loop .inv .1, s .pre .1 .1 .1 .0))
 
-same-length : tie.Need-same-length Inv-loop μ-loop
-same-length c = kept (turn (c .before))
-
-returns : tie.Need-returns Inv-loop μ-loop
-returns c = groups-done _ _ _ _ _ (turn (c .before) .loop .inv .0) (ended 1 _ _ _ (c .before .read-group .result) (c .match .keys1) (told (c .before) refl))
-
-enum-known-refusal : tie.Need-enum-known-refusal Inv-loop μ-loop
-enum-known-refusal c = search needs
-
-same-length-2 : tie.Need-same-length-2 Inv-loop μ-loop
-same-length-2 c = kept (turn (c .before .before .before))
-
-returns-2 : tie.Need-returns-2 Inv-loop μ-loop
-returns-2 c =
-    let x = c .before .refusal .given in
-    let q = c .before .before .before in
-    let (is, more) = told q (x .1) in
-    groups-refused _ _ _ _ _ (turn q .loop .inv .0) (x .0 .0) is more
-
 enum-known-a : tie.Need-enum-known-a Inv-loop μ-loop
 enum-known-a c = search needs
 
@@ -147,6 +128,25 @@ loop-again c =
     let room : length (numbers (start (line (row c)))) ≤ length (v .groups) = omega (arith, count (start (line (row c))), v .inv .1) in
     (rw (stored c) (groups-next _ _ _ _ _ (v .inv .0) (said (row c)) room), simp length-set (v .inv .1))
 
+same-length : tie.Need-same-length Inv-loop μ-loop
+same-length c = kept (turn (c .before))
+
+returns : tie.Need-returns Inv-loop μ-loop
+returns c = groups-done _ _ _ _ _ (turn (c .before) .loop .inv .0) (ended 1 _ _ _ (c .before .read-group .result) (c .match .keys2) (told (c .before) refl))
+
+enum-known-refusal : tie.Need-enum-known-refusal Inv-loop μ-loop
+enum-known-refusal c = search needs
+
+same-length-2 : tie.Need-same-length-2 Inv-loop μ-loop
+same-length-2 c = kept (turn (c .before .before .before))
+
+returns-2 : tie.Need-returns-2 Inv-loop μ-loop
+returns-2 c =
+    let x = c .before .refusal .given in
+    let q = c .before .before .before in
+    let (is, more) = told q (x .1) in
+    groups-refused _ _ _ _ _ (turn q .loop .inv .0) (x .0 .0) is more
+
 pub read-group-rows-spec : {M : Type 1} → statement M
 read-group-rows-spec =
     tie.close
@@ -155,15 +155,15 @@ read-group-rows-spec =
     μ-loop
     loop-holds
     read-group-requires
-    same-length
-    returns
-    enum-known-refusal
-    same-length-2
-    returns-2
     enum-known-a
     position-of-requires
     narrow-requires
     slice-write-groups
     add-line
     loop-less
-    loop-again)
+    loop-again
+    same-length
+    returns
+    enum-known-refusal
+    same-length-2
+    returns-2)

@@ -26,24 +26,24 @@ limit : (c : tie.Start Inv-loop μ-loop) → Fits w8 (c .args .l .boxes)
 limit c = search needs
 
 -- where the turn of the loop and the function begin, from where a row was read; and that from where its boxes were stored
-abbrev turn : tie.After-known-told2 Inv-loop μ-loop → tie.At-loop Inv-loop μ-loop
+abbrev turn : tie.After-known-told Inv-loop μ-loop → tie.At-loop Inv-loop μ-loop
 turn c = c .before .before .before .before
 
-abbrev start : tie.After-known-told2 Inv-loop μ-loop → tie.Start Inv-loop μ-loop
+abbrev start : tie.After-known-told Inv-loop μ-loop → tie.Start Inv-loop μ-loop
 start c = turn c .before .before .before .before
 
-abbrev row : tie.After-slice-known2 Inv-loop μ-loop → tie.After-known-told2 Inv-loop μ-loop
+abbrev row : tie.After-slice-known2 Inv-loop μ-loop → tie.After-known-told Inv-loop μ-loop
 row c = c .before .before .before .before .before .before .before
 
 -- past the match a move's row was read
-said : (c : tie.After-known-told2 Inv-loop μ-loop)
+said : (c : tie.After-known-told Inv-loop μ-loop)
     → let a = start c .args in
     let v = turn c .loop in
     let r = c .before .a .given .0 in
     RowTo 2 (a .text .now) (readRow 2 (v .line) (moveChecks (a .l) (take (a .n) (a .numbers .now)) (v .to ∷ v .from ∷ 0 ∷ []) (v .line)) (drop (v .p) (a .text .now))) (r .0) (r .1 .0) (r .1 .1 .0) (r .1 .1 .1 .0) (r .1 .1 .1 .1 .0) (r .1 .1 .1 .1 .1 .0)
 said c = rw (c .before .a .given .1) at (c .before .before .before .read-move .ensures)
 
-facts : (c : tie.After-known-told2 Inv-loop μ-loop)
+facts : (c : tie.After-known-told Inv-loop μ-loop)
     → let a = start c .args in
     let r = c .before .a .given .0 in
     MoveRow (a .l) (take (a .n) (a .numbers .now)) (r .0) (r .1 .0) (r .1 .1 .0) (turn c .loop .p) (r .1 .1 .1 .1 .1 .0)
@@ -66,24 +66,6 @@ loop-holds c = (moves-start _ _ _ _ _ _ _ (c .before .before .before .pre .0), r
 
 read-move-requires : tie.Need-read-move-requires Inv-loop μ-loop
 read-move-requires c κs = search needs
-
-same-length : tie.Need-same-length Inv-loop μ-loop
-same-length c = search needs
-
-returns : tie.Need-returns Inv-loop μ-loop
-returns c = moves-done _ _ _ _ _ _ (c .before .before .loop .inv .0) (ended 2 _ _ _ (c .before .read-move .result) (c .match .keys1) (c .before .read-move .ensures))
-
-enum-known-refusal : tie.Need-enum-known-refusal Inv-loop μ-loop
-enum-known-refusal c = search needs
-
-same-length-2 : tie.Need-same-length-2 Inv-loop μ-loop
-same-length-2 c = search needs
-
-returns-2 : tie.Need-returns-2 Inv-loop μ-loop
-returns-2 c =
-    let x = c .before .refusal .given in
-    let (is, more) = rw (x .1) at (c .before .before .before .read-move .ensures) in
-    moves-refused _ _ _ _ _ _ (c .before .before .before .before .loop .inv .0) (x .0 .0) is more
 
 enum-known-a : tie.Need-enum-known-a Inv-loop μ-loop
 enum-known-a c = search needs
@@ -119,6 +101,24 @@ loop-less c = omega (arith, facts (row c) .further, said (row c) .inside)
 loop-again : tie.Need-loop-again Inv-loop μ-loop
 loop-again c = let v = turn (row c) .loop in (rw (stored c) (moves-next _ _ _ _ _ _ (v .inv .0) (said (row c))), c .before .before .put-cell .kept .0 ∙ v .inv .1)
 
+same-length : tie.Need-same-length Inv-loop μ-loop
+same-length c = search needs
+
+returns : tie.Need-returns Inv-loop μ-loop
+returns c = moves-done _ _ _ _ _ _ (c .before .before .loop .inv .0) (ended 2 _ _ _ (c .before .read-move .result) (c .match .keys2) (c .before .read-move .ensures))
+
+enum-known-refusal : tie.Need-enum-known-refusal Inv-loop μ-loop
+enum-known-refusal c = search needs
+
+same-length-2 : tie.Need-same-length-2 Inv-loop μ-loop
+same-length-2 c = search needs
+
+returns-2 : tie.Need-returns-2 Inv-loop μ-loop
+returns-2 c =
+    let x = c .before .refusal .given in
+    let (is, more) = rw (x .1) at (c .before .before .before .read-move .ensures) in
+    moves-refused _ _ _ _ _ _ (c .before .before .before .before .loop .inv .0) (x .0 .0) is more
+
 pub read-move-rows-spec : {M : Type 1} → statement M
 read-move-rows-spec =
     tie.close
@@ -127,11 +127,6 @@ read-move-rows-spec =
     μ-loop
     loop-holds
     read-move-requires
-    same-length
-    returns
-    enum-known-refusal
-    same-length-2
-    returns-2
     enum-known-a
     position-of-requires
     position-of-requires-2
@@ -139,4 +134,9 @@ read-move-rows-spec =
     put-cell-requires
     add-line
     loop-less
-    loop-again)
+    loop-again
+    same-length
+    returns
+    enum-known-refusal
+    same-length-2
+    returns-2)
