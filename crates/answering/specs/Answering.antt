@@ -1,5 +1,5 @@
--- What yard-plan prints for a text (document 01, "The program"): the plan file of the best row; on refusals 1 to 7 two lines, names and
--- values, and on 9 two lines with the interval and its trains. This file is what a reader must believe of the program.
+-- What yard-plan prints for a text (document 01, "The program"): the plan file of the best row; on refusals 1 to 7, 15 and 16 two lines,
+-- names and values, and on 9 two lines with the interval and its trains. This file is what a reader must believe of the program.
 -- Assumes nothing.
 use mathlib.Core.List.{List, []}
 use mathlib.Core.Option.{Option}

@@ -18,7 +18,7 @@ use day::Verdict;
 use output::Wrote;
 use planning::Planned;
 
-// Plans a sound day and puts the reply at the front: the plan file of the best row, or the two lines of 9. Gives its length. The areas
+// Plans a sound day and puts the reply at the front: the plan file of the best row, or the two lines of 9 or 16. Gives its length. The areas
 // are local; they suffice for every sound day.
 fn put_best(out: &mut [u8], day: Day) -> usize
     requires { ⌜ T (sound dayLimits (yard day)) × (planBytes ≤ length (now out)) ⌝ }

@@ -1,4 +1,4 @@
--- `day_text::has_groups` meets its contract. The loop's invariant: no position passed has a group.
+-- `groups_text::has_groups` meets its contract. The loop's invariant: no position passed has a group.
 -- Assumes nothing.
 use Prim.Native.Nat.{_≤_, _-_}
 use mathlib.Core.Path.{_≡_, sym}
@@ -6,9 +6,9 @@ use mathlib.Core.Bool.{false}
 use borrow.Author.Needs.{needs}
 use borrow.Author.Tests.{lt-ltb, le-ltb}
 use Rattle.fold.specs.Fold.{no-some, none-next, none-end, some-found}
-use Rattle.day_text.specs.Writes.{hasGroups}
-use Rattle.day_text.proofs.has_groups.Statement.{statement}
-use Rattle.day_text.proofs.has_groups.Tie as tie
+use Rattle.groups_text.specs.Texts.{hasGroups}
+use Rattle.groups_text.proofs.has_groups.Statement.{statement}
+use Rattle.groups_text.proofs.has_groups.Tie as tie
 
 abbrev Inv-loop : tie.InvT-loop
 Inv-loop groups n i₀ i = (i ≤ n) × (hasGroups i groups ≡ false)

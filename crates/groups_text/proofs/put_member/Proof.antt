@@ -1,10 +1,10 @@
--- `day_text::put_member` meets its contract. By the two cases of the test that the position is in the group.
+-- `groups_text::put_member` meets its contract. By the two cases of the test that the position is in the group.
 -- Assumes nothing.
 use mathlib.Core.Path.{refl}
-use Rattle.day_text.specs.Laws.{member-none, member-some}
+use Rattle.groups_text.specs.Laws.{member-none, member-some}
 use borrow.Author.Needs.{needs}
-use Rattle.day_text.proofs.put_member.Statement.{statement}
-use Rattle.day_text.proofs.put_member.Tie as tie
+use Rattle.groups_text.proofs.put_member.Statement.{statement}
+use Rattle.groups_text.proofs.put_member.Tie as tie
 
 -- where the function began, from the place past the test; that place, from the one after the two values are widened
 abbrev start : tie.Else1 → tie.Start

@@ -1,4 +1,4 @@
--- `day_text::put_group` meets its contract. The loop's invariant: the rows of the positions passed stand there.
+-- `groups_text::put_group` meets its contract. The loop's invariant: the rows of the positions passed stand there.
 -- Assumes nothing.
 use mathlib.Core.Path.{_≡_, refl}
 use mathlib.Core.List.{[]}
@@ -7,11 +7,11 @@ use native.Mathlib.Omega.{arith}
 use lib.ListN.{length}
 use Rattle.fold.specs.Listed.{joined}
 use Rattle.decimal.specs.Place.{Put}
-use Rattle.day_text.specs.Writes.{memberText}
+use Rattle.groups_text.specs.Texts.{memberText}
 use Rattle.output.specs.Laws.{put-none, put-more, put-end, row-fits}
 use borrow.Author.Needs.{needs}
-use Rattle.day_text.proofs.put_group.Statement.{statement}
-use Rattle.day_text.proofs.put_group.Tie as tie
+use Rattle.groups_text.proofs.put_group.Statement.{statement}
+use Rattle.groups_text.proofs.put_group.Tie as tie
 
 abbrev Inv-loop : tie.InvT-loop
 Inv-loop out₀ at numbers groups n g next₀ i₀ out next i = (i ≤ n) × (length out ≡ length out₀) × Put out₀ out next₀ next (joined i (memberText numbers groups g))

@@ -1,4 +1,4 @@
--- `day_text::put_groups` meets its contract. Nothing where no train has a group; else the loop's invariant: after the names line stand the
+-- `groups_text::put_groups` meets its contract. Nothing where no train has a group; else the loop's invariant: after the names line stand the
 -- rows of the groups passed.
 -- Assumes nothing.
 use mathlib.Core.Path.{_≡_, refl, sym, _∙_}
@@ -11,12 +11,12 @@ use Rattle.fold.specs.Listed.{joined}
 use Rattle.decimal.specs.Place.{Put}
 use Rattle.decimal.specs.PlaceLaws.{put-text}
 use Rattle.dayfile.specs.Reading.{groupNames}
-use Rattle.day_text.specs.Writes.{groupText, setsText}
-use Rattle.day_text.specs.Laws.{group-text, sets-none, sets-some}
+use Rattle.groups_text.specs.Texts.{groupText, setsText}
+use Rattle.groups_text.specs.Laws.{group-text, sets-none, sets-some}
 use Rattle.output.specs.Laws.{put-none, put-more, put-end, names-fit, row-fits}
 use borrow.Author.Needs.{needs}
-use Rattle.day_text.proofs.put_groups.Statement.{statement}
-use Rattle.day_text.proofs.put_groups.Tie as tie
+use Rattle.groups_text.proofs.put_groups.Statement.{statement}
+use Rattle.groups_text.proofs.put_groups.Tie as tie
 
 abbrev Inv-loop : tie.InvT-loop
 Inv-loop out₀ at numbers groups n most next₀ g₀ out next g = (g ≤ most) × (length out ≡ length out₀) × Put out₀ out next₀ next (joined g (groupText n numbers groups))
