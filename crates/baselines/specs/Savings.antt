@@ -1,5 +1,6 @@
 -- What the answers of the two calls mean, from their contracts and the model alone, on any day and with any areas.
 --   complete-judged    a procedure's row that leaves no train without a slot is allowed on a sound day, or gets 14 with 0;
+--   incomplete-judged  a row that leaves one without gets 14 with the lowest such position, whatever the groups;
 --   saves              where three numbers and a saving are given, the procedure's row is allowed, they are the model's, and the saving is
 --                      what the row costs more than the best plan: never below zero;
 --   planned-before     where 14 is given the day has a plan;
@@ -11,12 +12,12 @@ use mathlib.Core.Path.{_≡_, refl, sym, ap, _∙_, subst}
 use mathlib.Core.Bool.{Bool, true, false}
 use mathlib.Core.List.{List, [], _∷_}
 use mathlib.Core.Logic.{_⊎_, inl, inr, ⊎-elim}
-use Prim.Native.Nat.{ℕ, _+_, _-_, _*_, _^_}
+use Prim.Native.Nat.{ℕ, suc, _+_, _-_, _*_, _^_}
 use native.Mathlib.Omega.{arith}
 use lib.Dec.{T, eqb→eq}
 use lib.IntN.{pos, _-ℤ_, pos-+ℤ-pos, +ℤ-negℤ-cancel}
 use lib.ListN.{length, drop}
-use borrow.Author.Tests.{eq-eqb}
+use borrow.Author.Tests.{eq-eqb, ne-eqb}
 use Rattle.fold.specs.Test.{of-true, is-false, test}
 use Rattle.model.specs.Model.{Yard, Outcome, outcome, cost, fitting, kept, allowed, Best}
 use Rattle.model.specs.Rows.{fits-allowed}
@@ -55,6 +56,11 @@ module _ (l : Limits) (y : Yard) where
   complete-fits : (p : Procedure) → T (sound l y) → leftOver (y .trains) (rowBy p y) ≡ y .trains → T (fitting y (rowBy p y))
   complete-fits FirstCome s = first-fits l y s
   complete-fits Myopic s = myopic-fits l y s
+
+  -- one that leaves a train over gets 14 with the lowest such position, whether or not it parts a group
+  pub incomplete-judged : (row : List ℕ) → (leftOver (y .trains) row ≡ y .trains → ⊥) → (best : ℕ) → against y row best ≡ refuses 14 (suc (leftOver (y .trains) row) ∷ [])
+  unfolding against
+  incomplete-judged row some best = rw (ne-eqb (leftOver (y .trains) row) (y .trains) some)
 
   -- whatever the planned cost is
   pub complete-judged : (p : Procedure) → T (sound l y) → leftOver (y .trains) (rowBy p y) ≡ y .trains

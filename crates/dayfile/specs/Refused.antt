@@ -7,8 +7,9 @@ use mathlib.Core.Logic.{_⊎_, inl, inr}
 use Prim.Native.Nat.{ℕ, zero, suc, _+_, _≤_}
 use native.Mathlib.Omega.{arith}
 use lib.ListN.{length, getD}
-use Rattle.day.specs.Answer.{Answer, gives, Check, checked}
+use Rattle.day.specs.Answer.{Answer, gives, refuses, Check, checked}
 use Rattle.day.specs.AnswerLaws.{Only, OnlyChecks, only-given, only-checked}
+use Rattle.day.specs.Sound.{within, groupRanges}
 use Rattle.day.specs.declared.Limits.{Limits}
 use Rattle.decimal.specs.Parsed.{Parsed, fail, got}
 use Rattle.lines.specs.Lines.{names, row}
@@ -121,3 +122,9 @@ module _ (l : Limits) where
       (group-lined (numbersOf (t .rows)) (5 + getD (h .row) 0 0 + length (m .rows)) (m .rest) (omega arith))
       λ g e. tt)
       λ f e. tt
+
+-- ---- in a row of a group the limits come first: 3, whatever train it names and wherever its pair stands
+
+pub group-limits : (l : Limits) (numbers taken before : List ℕ) (line : ℕ) (member : List ℕ) (a : Answer RowRest) → within (groupRanges l) member ≡ false
+    → checked (groupChecks l numbers taken before line member) a ≡ refuses 3 (line ∷ [])
+group-limits l numbers taken before line member a e = rw e

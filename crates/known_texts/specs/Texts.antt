@@ -265,6 +265,8 @@ table =
     ∷ refused (withMoves "group train\n13 5\n") 3 10
     ∷ refused (withMoves "group train\n2 1\n0 1\n") 3 11
     ∷ refused (withMoves "group train\n1 5\n0 1\n") 15 10
+    ∷ refused (withMoves "group train\n2 1\n1 0\n") 3 11
+    ∷ refused (withMoves "group train\n2 1\n1 x\n") 2 11
     -- 15: a train not listed, the same pair twice, a train before the one before, a group before the one before, a train in two groups
     ∷ refused (withMoves "group train\n1 5\n") 15 10
     ∷ refused (withMoves "group train\n1 1\n1 1\n") 15 11

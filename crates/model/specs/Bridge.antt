@@ -23,7 +23,7 @@ use Rattle.fold.specs.Counting.{same-or, le-or-lt, bit-le}
 use Rattle.model.specs.Model.{Yard, received, slotOf, lateSupplier, revisiting, revisits, splitBoxes, splitsTo, splits, weighed, cost, load, fitting, kept, allowed, Best}
 use Rattle.model.specs.Program.{bigM, slotIn, distance, Supplies, Feasible, FeasibleInGroups, objective, chosen, leastY, leastZ}
 use Rattle.model.specs.Rows.{Fitting, fitting-is, is-fitting, allowed-fits, allowed-keeps, fits-allowed}
-use Rattle.model.specs.Groups.{kept-of, kept-by}
+use Rattle.model.specs.Groups.{grouped-of, grouped-by, kept-of, kept-by}
 
 -- ---- numbers and tests
 
@@ -229,7 +229,7 @@ made-keeps y x v z f =
     kept-by (y .trains) (y .groups) (made y x)
     (λ i j h l g.
     sym (made-slot y x i h)
-    ∙ sum-ext (y .slots) (λ t. x i (suc t) * suc t) (λ t. x j (suc t) * suc t) (λ t b. ap (λ k. k * suc t) (f .order4 i j t h l g b))
+    ∙ sum-ext (y .slots) (λ t. x i (suc t) * suc t) (λ t. x j (suc t) * suc t) (λ t b. let (some, same) = grouped-of (y .groups) i j g in ap (λ k. k * suc t) (f .order4 i j t h l some same b))
     ∙ made-slot y x j l)
 
 -- a feasible point gives an allowed row with the same slots that costs at most the objective
@@ -245,7 +245,8 @@ feasible-allowed y x v z f =
 pub allowed-feasible : (y : Yard) (row : List ℕ) → T (allowed y row) → FeasibleInGroups y (chosen row) (leastY y row) (leastZ row)
 allowed-feasible y row ok = record {
   published = row-feasible y row (allowed-fits y row ok);
-  order4 = λ i j t h l g b. ap (λ s. bit (eqb s (suc t))) (kept-of (y .trains) (y .groups) row (allowed-keeps y row ok) i j h l g);
+  order4 = λ i j t h l some same b.
+      ap (λ s. bit (eqb s (suc t))) (kept-of (y .trains) (y .groups) row (allowed-keeps y row ok) i j h l (grouped-by (y .groups) i j some same));
 }
 
 -- no feasible point has a smaller objective than the best plan's cost

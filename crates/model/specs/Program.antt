@@ -6,9 +6,9 @@ use mathlib.Core.Path.{_≡_}
 use mathlib.Core.Bool.{not, cond}
 use mathlib.Core.List.{List}
 use Prim.Native.Nat.{ℕ, suc, _+_, _-_, _*_, _≤_, _<_}
-use lib.Dec.{T, eqb}
+use lib.Dec.{eqb}
 use Rattle.fold.specs.Fold.{bit, sum}
-use Rattle.model.specs.Model.{Yard, received, firstSlot, lastSlot, slotOf, supplies, revisiting, grouped}
+use Rattle.model.specs.Model.{Yard, received, firstSlot, lastSlot, slotOf, groupOf, supplies, revisiting}
 
 -- ---- the program
 
@@ -38,10 +38,11 @@ pub record Feasible (y : Yard) (x : ℕ → ℕ → ℕ) (v : ℕ → ℕ) (z : 
   pub eq6z : (i j : ℕ) → i < y .trains → Supplies y i j → z i j ≤ 1
   pub eq12 : (i : ℕ) → i < y .trains → (firstSlot y i ≤ slotIn (y .slots) x i) × (slotIn (y .slots) x i ≤ lastSlot y i)
 
--- with wagon sets. Order 4, which is not the source's: members of one group have the same x, slot by slot
+-- with wagon sets. Order 4, which is not the source's: members of one group (0 is none) have the same x, slot by slot
 pub record FeasibleInGroups (y : Yard) (x : ℕ → ℕ → ℕ) (v : ℕ → ℕ) (z : ℕ → ℕ → ℕ) : Type 0 where
   pub published : Feasible y x v z
-  pub order4 : (i j t : ℕ) → i < y .trains → j < y .trains → T (grouped (y .groups) i j) → t < y .slots → x i (suc t) ≡ x j (suc t)
+  pub order4 : (i j t : ℕ) → i < y .trains → j < y .trains → 0 < groupOf (y .groups) i → groupOf (y .groups) i ≡ groupOf (y .groups) j
+      → t < y .slots → x i (suc t) ≡ x j (suc t)
 
 -- (1), with the inner sum over j in L_i
 unfoldable pub objective : Yard → (ℕ → ℕ) → (ℕ → ℕ → ℕ) → ℕ

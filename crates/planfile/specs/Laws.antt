@@ -1,14 +1,25 @@
--- The text of a plan in its two sections, as the code puts them.
+-- The text of a plan in its two sections, as the code puts them; and that 8 comes before all else.
 -- Assumes nothing.
 use mathlib.Core.Path.{_≡_, ap, _∙_}
-use mathlib.Core.List.{List, _++_, append-assoc}
+use mathlib.Core.Bool.{false}
+use mathlib.Core.List.{List, [], _∷_, _++_, append-assoc}
 use Prim.Native.Nat.{ℕ, _+_}
 use lib.ListN.{length, length-append}
 use Rattle.fold.specs.Listed.{joined}
-use Rattle.model.specs.Model.{Outcome}
+use Rattle.model.specs.Model.{Yard, Outcome}
+use Rattle.day.specs.Answer.{refuses}
+use Rattle.day.specs.Sound.{sound}
+use Rattle.day.specs.declared.Limits.{Limits}
 use Rattle.lines.specs.Lines.{rowText}
+use Rattle.output.specs.Output.{writes}
 use Rattle.output.specs.Laws.{rows-listed}
-use Rattle.planfile.specs.PlanText.{valueNames, slotNames, valueRow, slotRow, planLines}
+use Rattle.planfile.specs.PlanText.{valueNames, slotNames, valueRow, slotRow, planLines, planWrites}
+
+-- ---- 8 is given whatever the row and the output are
+
+pub plan-unsound : (l : Limits) (y : Yard) (row : List ℕ) (size : ℕ) → sound l y ≡ false → planWrites l y row size ≡ refuses 8 (0 ∷ [])
+unfolding writes
+plan-unsound l y row size s = rw s
 
 -- ---- the two sections, as the code puts them
 

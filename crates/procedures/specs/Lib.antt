@@ -3,3 +3,4 @@ pub mod Underway
 pub mod Complete
 pub mod Laws
 pub mod Selected
+pub mod Blind

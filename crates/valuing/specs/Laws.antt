@@ -2,24 +2,27 @@
 -- model's.
 -- Assumes nothing.
 use mathlib.Core.Path.{_≡_, refl, sym, ap, _∙_, subst}
-use mathlib.Core.Bool.{Bool, true, false, not}
+use mathlib.Core.Bool.{Bool, true, false, not, cond}
 use mathlib.Core.List.{List, [], _∷_}
-use mathlib.Core.Logic.{_⊎_, inl, inr}
-use Prim.Native.Nat.{ℕ, suc, _+_, _≤_, _<_}
+use mathlib.Core.Logic.{_⊎_, inl, inr, ⊎-elim}
+use Prim.Native.Nat.{ℕ, zero, suc, _+_, _≤_, _<_}
 use native.Mathlib.Numerals.{add-one}
 use native.Mathlib.Omega.{arith}
-use lib.Dec.{T}
+use lib.Dec.{T, eqb}
 use lib.ListN.{length}
 use borrow.Author.Tests.{eq-eqb, ne-eqb}
-use Rattle.fold.specs.Fold.{each, each-at, each-i, lowest, each-lowest, lowest-each}
-use Rattle.model.specs.Model.{Yard, slotOf, firstSlot, lastSlot, Outcome, outcome, inSlots, inTime, inWindow, roomy, allowed}
+use Rattle.fold.specs.Test.{of-true, clash}
+use Rattle.fold.specs.Counting.{le-or-lt}
+use Rattle.fold.specs.Fold
+use Rattle.fold.specs.Fold.{each, each-at, each-i, lowest, lowest-passes, lowest-before, each-lowest, lowest-each}
+use Rattle.model.specs.Model.{Yard, slotOf, firstSlot, lastSlot, Outcome, outcome, inSlots, inTime, inWindow, roomy, kept, parted, allowed}
 use Rattle.model.specs.Rows
 use Rattle.model.specs.Rows.{windowed, fitting-tests, tests-fitting, allowed-fits, allowed-keeps, fits-allowed, both-le, le-both}
 use Rattle.model.specs.Groups.{GroupsUpTo, parted-parts, unparted-keeps}
 use Rattle.wagon_sets.specs.Laws.{parts}
 use Rattle.day.specs.Sound.{dayFrom, sound}
 use Rattle.day.specs.SoundLaws.{sound-is}
-use Rattle.day.specs.Answer.{gives, refuses}
+use Rattle.day.specs.Answer.{Answer, gives, refuses, code}
 use Rattle.day.specs.AnswerLaws.{checked-holds, checked-gives, Only, only-after}
 use Rattle.day.specs.declared.Head.{Head}
 use Rattle.day.specs.declared.Limits.{Limits}
@@ -99,6 +102,59 @@ unfolding valued
 valued-only l y row s =
     only-after SlotRefusal (sound l y) 8 (0 ∷ []) (slotChecks l y row) (gives (outcome y row)) s
     (inl (omega arith, omega arith), (inl (omega arith, omega arith), (inl (omega arith, omega arith), (inr refl, tt)))) tt
+
+-- ---- what two of the refusals say: 8 is given whatever the row is; 17 names a parted group, and no lower one is parted
+
+module _ (l : Limits) (y : Yard) (row : List ℕ) where
+  pub valued-unsound : sound l y ≡ false → valued l y row ≡ refuses 8 (0 ∷ [])
+  unfolding valued
+  valued-unsound s = simp s
+
+  pub record LowestParted (carries : List ℕ) : Type 0 where
+    pub group : ℕ
+    pub named : carries ≡ group ∷ []
+    pub isParted : T (parted (y .trains) (y .groups) row group)
+    pub lowest : (g : ℕ) → 1 ≤ g → g < group → T (parted (y .trains) (y .groups) row g) → ⊥
+
+  -- the search has found one, since the row does not keep the groups
+  low : ℕ
+  low = Fold.lowest (l .groups) (parts (y .trains) (y .groups) row)
+
+  found : T (sound l y) → kept (y .trains) (y .groups) row ≡ false → low < l .groups
+  unfolding low
+  found s e =
+      ⊎-elim (λ h. absurd (clash (unparted-keeps (y .trains) (y .groups) row (l .groups) (sound-is l y s .groups) h) e)) (λ h. h) (le-or-lt (l .groups) low)
+
+  pub valued-parted : (carries : List ℕ) → valued l y row ≡ refuses 17 carries → LowestParted carries
+  unfolding valued low
+  valued-parted carries =
+      go (sound l y) (eqb (length row) (y .trains)) (each (y .trains) (inWindow (y .first) (y .last) row)) (each (y .slots) λ t. roomy (y .trains) (y .tracks) row (suc t))
+      (kept (y .trains) (y .groups) row) refl refl
+    where
+      below : (g : ℕ) → 1 ≤ g → g < suc low → T (parted (y .trains) (y .groups) row g) → ⊥
+      below zero a h p = omega arith
+      below (suc g) a h p = lowest-before (l .groups) (parts (y .trains) (y .groups) row) g (omega arith) p
+
+      stray : List ℕ
+      stray = suc (Fold.lowest (y .trains) (strays (y .first) (y .last) row)) ∷ []
+
+      full : List ℕ
+      full = suc (Fold.lowest (y .slots) (overfull (y .trains) (y .tracks) row)) ∷ []
+
+      go : (s a b c k : Bool) → sound l y ≡ s → kept (y .trains) (y .groups) row ≡ k
+          → _≡_ {A = Answer Outcome} (cond s (cond a (cond b (cond c (cond k (gives (outcome y row)) (refuses 17 (suc low ∷ []))) (refuses 13 full)) (refuses 12 stray)) (refuses 11 (0 ∷ []))) (refuses 8 (0 ∷ []))) (refuses 17 carries)
+          → LowestParted carries
+      go false a b c k s q e = absurd (let n = ap code e in omega arith)
+      go true false b c k s q e = absurd (let n = ap code e in omega arith)
+      go true true false c k s q e = absurd (let n = ap code e in omega arith)
+      go true true true false k s q e = absurd (let n = ap code e in omega arith)
+      go true true true true true s q e = absurd (let n : _≡_ {A = ℕ} 0 1 = cc in omega arith)
+      go true true true true false s q e = record {
+        group = suc low;
+        named = cc;
+        isParted = lowest-passes (l .groups) (parts (y .trains) (y .groups) row) (found (of-true s) q);
+        lowest = below;
+      }
 
 -- ---- demand 2: each allowed row of a sound day has the model's numbers, and no other row has any
 
