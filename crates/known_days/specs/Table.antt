@@ -145,11 +145,13 @@ table =
     ∷ values (inGroups (7 ∷ 3 ∷ 7 ∷ 3 ∷ []) (paperDay 1 1 1)) (1 ∷ 2 ∷ 2 ∷ 2 ∷ []) (refuses 13 (2 ∷ []))
     ∷ values (inGroups (1 ∷ 1 ∷ 12 ∷ 12 ∷ []) (openDay 4 2 3 [])) (1 ∷ 1 ∷ 2 ∷ 3 ∷ []) (refuses 17 (12 ∷ []))
     ∷ values (inGroups (0 ∷ 0 ∷ 1 ∷ 1 ∷ []) (openDay 4 2 3 [])) (1 ∷ 2 ∷ 3 ∷ 3 ∷ []) (gives (figures 0 0 0))
+    -- whichever of the groups has the first or the last member in the file; a set of all trains; 8 where a group alone is unsound
     ∷ values (inGroups (7 ∷ 3 ∷ 3 ∷ 7 ∷ []) (paperDay 1 1 1)) (1 ∷ 1 ∷ 2 ∷ 2 ∷ []) (refuses 17 (3 ∷ []))
     ∷ values (inGroups (3 ∷ 7 ∷ 7 ∷ 3 ∷ []) (paperDay 1 1 1)) (1 ∷ 1 ∷ 2 ∷ 2 ∷ []) (refuses 17 (3 ∷ []))
     ∷ values (inGroups (replicate 12 3) (openDay 12 12 2 [])) (1 ∷ 1 ∷ 1 ∷ 1 ∷ 1 ∷ 1 ∷ 1 ∷ 1 ∷ 1 ∷ 1 ∷ 1 ∷ 2 ∷ []) (refuses 17 (3 ∷ []))
     ∷ values (inGroups (13 ∷ 0 ∷ []) (openDay 2 1 2 [])) (1 ∷ []) (refuses 8 (0 ∷ []))
     ∷ values (inGroups (13 ∷ 13 ∷ []) (openDay 2 1 2 [])) (1 ∷ 2 ∷ []) (refuses 8 (0 ∷ []))
+    -- nor at the windows that a group's trains share
     ∷ compares firstCome (inGroups (1 ∷ 1 ∷ []) (dayOf 2 2 2 1 1 (2 ∷ 1 ∷ []) (2 ∷ 2 ∷ []) [])) (2 ∷ 1 ∷ []) (refuses 14 (0 ∷ []))
     ∷ compares myopic (inGroups (1 ∷ 1 ∷ []) (dayOf 2 2 2 1 1 (2 ∷ 1 ∷ []) (2 ∷ 2 ∷ []) [])) (2 ∷ 1 ∷ []) (refuses 14 (0 ∷ []))
     ∷ compares myopic (inGroups (1 ∷ 0 ∷ 1 ∷ []) (openDay 3 2 2 [])) (1 ∷ 1 ∷ 2 ∷ []) (refuses 14 (0 ∷ []))
