@@ -22,6 +22,13 @@ use Rattle.staging.specs.Tables.{together, barred}
 use Rattle.staging.specs.Serving.{together-of, together-by}
 use Rattle.tables.specs.Filled.{Filled}
 
+-- barred by one test and then by another is barred by both
+pub barred-twice : (a b : Bool) (x : ℕ) → cond b (cond a x barred) barred ≡ cond (a && b) x barred
+barred-twice true true x = refl
+barred-twice true false x = refl
+barred-twice false true x = refl
+barred-twice false false x = refl
+
 -- the members of the group of position i, none where it has no group
 abbrev pub members : ℕ → List ℕ → ℕ → ℕ
 members n groups i = mask n (grouped groups i)
@@ -55,15 +62,9 @@ module _ (n : ℕ) (groups : List ℕ) where
               g .all s l
               ∙ ap (λ x. cond (undivided m s) x barred) (h .all s l)
               ∙ ap (λ x. cond (undivided x s) (cond (whole k n groups s) (at price₀ s) barred) barred) e
-              ∙ both-tests (whole k n groups s) (undivided (members n groups k) s) (at price₀ s)
+              ∙ barred-twice (whole k n groups s) (undivided (members n groups k) s) (at price₀ s)
               ∙ sym (ap (λ b. cond b (at price₀ s) barred) (whole-next k s));
         }
-      where
-        both-tests : (a b : Bool) (x : ℕ) → cond b (cond a x barred) barred ≡ cond (a && b) x barred
-        both-tests true true x = refl
-        both-tests true false x = refl
-        both-tests false true x = refl
-        both-tests false false x = refl
 
     -- a position in no group has no members, so no set parts them
     pub barred-skip : groupOf groups k ≡ 0 → Filled (λ s. cond (whole (k + 1) n groups s) (at price₀ s) barred) size price₀ price

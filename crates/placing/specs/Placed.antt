@@ -1,13 +1,12 @@
 -- The best row behind the solved table, and what placing leaves in lent memory.
 -- Assumes nothing.
-use mathlib.Core.Path.{_≡_, refl}
-use mathlib.Core.Bool.{Bool, true, false, cond, _&&_}
+use mathlib.Core.Path.{_≡_}
+use mathlib.Core.Bool.{Bool, true, false}
 use mathlib.Core.List.{List}
 use mathlib.Core.Option.{some}
 use Prim.Native.Nat.{ℕ, _-_, _*_, _^_, _≤_, _<_}
 use native.Mathlib.Omega.{arith}
-use lib.Count.{ones}
-use lib.Dec.{T, leb}
+use lib.Dec.{T}
 use lib.ListN.{getD, take, drop}
 use Rattle.model.specs.Model.{Yard, NoRow}
 use Rattle.model.specs.BestOf.{bestOf, best-is}
@@ -15,9 +14,8 @@ use Rattle.day.specs.Sound.{dayLimits, sound}
 use Rattle.day.specs.Most.{cost-most}
 use Rattle.optimum.specs.Layers.{Solved}
 use Rattle.optimum.specs.Chosen.{rowIn, Leads}
-use Rattle.staging.specs.Tables.{together, servable, stageKey, barred, noCost}
+use Rattle.staging.specs.Tables.{servable, stageKey, noCost}
 use Rattle.staging.specs.Reachable.{Reachable}
-use Rattle.staging.specs.FromTables.{admitted}
 use Rattle.staging.specs.Solution.{solution-leads, solution-best, solution-none}
 
 -- where a row is allowed: the best one is in the first n bytes of the row, which is otherwise unchanged; of the areas only the words of the sets are used
@@ -59,15 +57,3 @@ module _ (y : Yard) {N : ℕ} {a₀ c₀ a c : List ℕ} (s : T (sound dayLimits
 
   pub none-found : noCost ≤ getD a (N - 1) 0 → NoRow y
   none-found = solution-none y size solved (λ row. omega (arith, cost-most y row s))
-
--- ---- the table of prices, with the groups barred
-
-pub prices-barred : (y : Yard) (s x : ℕ) → cond (together (y .trains) (y .groups) s) (cond (leb (ones s) (y .tracks)) x barred) barred
-    ≡ cond (admitted y s) x barred
-prices-barred y s x = go (leb (ones s) (y .tracks)) (together (y .trains) (y .groups) s)
-  where
-    go : (a b : Bool) → cond b (cond a x barred) barred ≡ cond (a && b) x barred
-    go true true = refl
-    go true false = refl
-    go false true = refl
-    go false false = refl

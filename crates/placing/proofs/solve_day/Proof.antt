@@ -6,7 +6,8 @@ use mathlib.Core.Bool.{cond}
 use Prim.Native.Nat.{ℕ, _*_, _^_, _≤_, _<_}
 use native.Mathlib.Nat.{pow-le-pow-right}
 use native.Mathlib.Omega.{arith}
-use lib.Dec.{lit≤}
+use lib.Count.{ones}
+use lib.Dec.{leb, lit≤}
 use lib.Pow.{pow-pos}
 use Rattle.day.specs.Sound.{dayLimits, yard}
 use Rattle.day.specs.SoundLaws.{Sound, sound-is}
@@ -16,7 +17,7 @@ use Rattle.staging.specs.Tables.{fromOutside, together, Tables, tablesOf, barre
 use Rattle.staging.specs.SlotInRow.{rowAround, split-in-row}
 use Rattle.staging.specs.FromTables.{DayTables, room-enough, unbarred-cheap, solved-day}
 use Rattle.tables.specs.Given.{Given}
-use Rattle.placing.specs.Placed.{prices-barred}
+use Rattle.barring.specs.Laws.{barred-twice}
 use borrow.Author.Needs.{needs}
 use Rattle.placing.proofs.solve_day.Statement.{statement}
 use Rattle.placing.proofs.solve_day.Tie as tie
@@ -91,7 +92,7 @@ day-tables f =
       prices = λ m h.
           past-barred f .bar-groups .ensures .all m (below m h)
           ∙ ap (λ x. cond (together (y .trains) (y .groups) m) x barred) (p .fill-price .ensures .all m (below m h))
-          ∙ prices-barred y m (y .split * fromOutside (y .trains) (received y) m);
+          ∙ barred-twice (leb (ones m) (y .tracks)) (together (y .trains) (y .groups) m) (y .split * fromOutside (y .trains) (received y) m);
       windows = f .fill-open .ensures .all;
       cheap = λ row. omega (arith, cost-most (yard (start f .args .day)) row (start f .pre .0));
     }
