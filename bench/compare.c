@@ -188,6 +188,14 @@ static void add_sets(enum group group, const char *name, unsigned tracks, unsign
     group_trains(d);
 }
 
+/* A day with boxes by the formula and both weights 0: all rows cost the same, so the cost alone decides nothing. */
+static void add_ties(void)
+{
+    struct day *d = new_day(MAIN, "ties", 12, 2, 8);
+    fill_boxes(d);
+    d->revisit = d->split = 0;
+}
+
 static void make_days(void)
 {
     char name[24];
@@ -195,6 +203,7 @@ static void make_days(void)
     fill_boxes(new_day(MAIN, "tight", 12, 2, 8));
     fill_boxes(new_day(MAIN, "paper", 12, 3, 4));
     add_sets(MAIN, "sets", 12, 8);
+    add_ties();
     for (unsigned tenths = 2; tenths <= 8; tenths += 2) {
         for (unsigned k = 1; k <= PER_PROBABILITY; k++) {
             snprintf(name, sizeof name, "p%u-%u", tenths, k);

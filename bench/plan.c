@@ -18,6 +18,10 @@ enum { WIDTH = 12, SETS = 4096, SLOTS = 8, ANSWER_BYTES = 148 };
 #define NONE UINT64_MAX
 #define BARRED UINT32_MAX
 
+/* A unit of cost, and a revisit, in a key: the cost stands above the revisits, and these above the sum of slot numbers. */
+#define COST_UNIT 2048
+#define REVISIT_UNIT 128
+
 /* The proved code's local arrays begin as zeros; the plain program does without, since it writes each word before it reads it. */
 #ifdef PLAIN
 #define ZEROS
@@ -107,15 +111,21 @@ static void fill_needing(uint16_t *need, const uint8_t *boxes, size_t n)
     }
 }
 
-static void fill_late(uint32_t *late, uint32_t revisit, size_t n)
+static void fill_count(uint8_t *count, size_t n)
 {
     size_t size = 1;
-    late[0] = 0;
+    count[0] = 0;
     for (size_t k = 0; k < n; k++) {
         for (size_t m = 0; m < size; m++)
-            late[size + m] = late[m] + revisit;
+            count[size + m] = (uint8_t)(count[m] + 1);
         size += size;
     }
+}
+
+static void fill_late(uint32_t *late, const uint8_t *count, uint32_t revisit, size_t size)
+{
+    for (size_t m = 0; m < size; m++)
+        late[m] = revisit * count[m];
 }
 
 static uint32_t received_by(const uint8_t *boxes, size_t n, size_t k)
@@ -182,20 +192,26 @@ static void fill_open(uint64_t *opens, const struct day *d)
 
 /* ---- the stages, as crates/cells, crates/solving and crates/tracing */
 
-/* A cell of the table: the least value, and the set that is served for it. */
+/* A cell of the table: the least key, and the set that is served for it. */
 struct pick {
     uint64_t value;
     uint16_t set;
 };
 
-/* What a slot costs in which s is served and rest remains, where the split moves of s cost splits: a sum in 32 bits. */
-static uint32_t slot_cost(const uint16_t *need, const uint32_t *late, uint32_t splits, size_t rest, size_t s)
+/* The trains of s that revisit where rest remains. */
+static size_t late_set(const uint16_t *need, size_t rest, size_t s)
 {
-    return late[s & need[rest]] + splits;
+    return s & need[rest];
+}
+
+/* What a slot costs in which the trains of revisiting revisit and the split moves cost splits: a sum in 32 bits. */
+static uint32_t slot_cost(const uint32_t *late, uint32_t splits, size_t revisiting)
+{
+    return late[revisiting] + splits;
 }
 
 static struct pick cheapest(const uint64_t *cost, const uint16_t *need, const uint32_t *late, const uint32_t *price,
-                            const uint64_t *opens, size_t j, size_t r)
+                            const uint8_t *count, const uint64_t *opens, size_t j, size_t r)
 {
     size_t ready = r & opens[j];
     struct pick p = {NONE, 0};
@@ -205,15 +221,22 @@ static struct pick cheapest(const uint64_t *cost, const uint16_t *need, const ui
             size_t rest = r - s;
             uint64_t after = cost[rest];
             if (after < NONE) {
-                uint64_t total = after + slot_cost(need, late, splits, rest, s);
+                size_t revisiting = late_set(need, rest, s);
+                uint64_t total = after + (uint64_t)slot_cost(late, splits, revisiting) * COST_UNIT;
                 if (total < p.value) {
-                    p.value = total;
-                    p.set = (uint16_t)s;
+                    uint64_t key = total + (uint64_t)count[revisiting] * REVISIT_UNIT;
+                    if (key < p.value) {
+                        p.value = key;
+                        p.set = (uint16_t)s;
+                    }
                 }
             }
         }
-        if (s == 0)
+        if (s == 0) {
+            if (p.value < NONE)
+                p.value += count[r];
             return p;
+        }
     }
 }
 
@@ -221,14 +244,14 @@ static struct pick cheapest(const uint64_t *cost, const uint16_t *need, const ui
 
 /* The plain algorithm: every cell of every slot is walked, over the values where no slot is left. */
 static void solve(uint64_t *cost, uint16_t *choice, const uint16_t *need, const uint32_t *late, const uint32_t *price,
-                  const uint64_t *opens, uint32_t tracks, size_t slots, size_t size)
+                  const uint8_t *count, const uint64_t *opens, uint32_t tracks, size_t slots, size_t size)
 {
     (void)tracks;
     for (size_t i = 0; i < size; i++)
         cost[i] = i == 0 ? 0 : NONE;
     for (size_t j = slots; j-- > 0;) {
         for (size_t r = size; r-- > 0;) {
-            struct pick p = cheapest(cost, need, late, price, opens, j, r);
+            struct pick p = cheapest(cost, need, late, price, count, opens, j, r);
             cost[r] = p.value;
             choice[j * size + r] = p.set;
         }
@@ -238,14 +261,16 @@ static void solve(uint64_t *cost, uint16_t *choice, const uint16_t *need, const 
 #else
 
 static void fill_last(uint64_t *cost, uint16_t *choice, const uint16_t *need, const uint32_t *late, const uint32_t *price,
-                      const uint64_t *opens, size_t slots, size_t size)
+                      const uint8_t *count, const uint64_t *opens, size_t slots, size_t size)
 {
     size_t j = slots - 1;
     for (size_t r = size; r-- > 0;) {
         uint32_t splits = price[r];
         struct pick p = {NONE, 0};
         if (splits < BARRED && (r & opens[j]) == r) {
-            p.value = slot_cost(need, late, splits, 0, r);
+            size_t revisiting = late_set(need, 0, r);
+            p.value = (uint64_t)slot_cost(late, splits, revisiting) * COST_UNIT;
+            p.value += (uint64_t)count[revisiting] * REVISIT_UNIT + count[r];
             p.set = (uint16_t)r;
         }
         cost[r] = p.value;
@@ -254,7 +279,7 @@ static void fill_last(uint64_t *cost, uint16_t *choice, const uint16_t *need, co
 }
 
 static void fill_slot(uint64_t *cost, uint16_t *choice, const uint16_t *need, const uint32_t *late, const uint32_t *price,
-                      const uint64_t *opens, uint32_t tracks, size_t later, size_t j, size_t slots, size_t size)
+                      const uint8_t *count, const uint64_t *opens, uint32_t tracks, size_t later, size_t j, size_t slots, size_t size)
 {
     uint32_t room = tracks * (uint32_t)(slots - j);
     uint32_t gone = tracks * (uint32_t)j;
@@ -264,7 +289,7 @@ static void fill_slot(uint64_t *cost, uint16_t *choice, const uint16_t *need, co
         if (all <= trains + gone) {
             struct pick p = {NONE, 0};
             if (trains <= room && (r & later) == r)
-                p = cheapest(cost, need, late, price, opens, j, r);
+                p = cheapest(cost, need, late, price, count, opens, j, r);
             cost[r] = p.value;
             choice[j * size + r] = p.set;
         }
@@ -272,27 +297,27 @@ static void fill_slot(uint64_t *cost, uint16_t *choice, const uint16_t *need, co
 }
 
 static void fill_first(uint64_t *cost, uint16_t *choice, const uint16_t *need, const uint32_t *late, const uint32_t *price,
-                       const uint64_t *opens, size_t size)
+                       const uint8_t *count, const uint64_t *opens, size_t size)
 {
     size_t r = size - 1;
-    struct pick p = cheapest(cost, need, late, price, opens, 0, r);
+    struct pick p = cheapest(cost, need, late, price, count, opens, 0, r);
     cost[r] = p.value;
     choice[r] = p.set;
 }
 
 static void solve(uint64_t *cost, uint16_t *choice, const uint16_t *need, const uint32_t *late, const uint32_t *price,
-                  const uint64_t *opens, uint32_t tracks, size_t slots, size_t size)
+                  const uint8_t *count, const uint64_t *opens, uint32_t tracks, size_t slots, size_t size)
 {
     size_t j = slots - 1;
     size_t later = opens[j];
-    fill_last(cost, choice, need, late, price, opens, slots, size);
+    fill_last(cost, choice, need, late, price, count, opens, slots, size);
     while (1 < j) {
         j--;
         later |= opens[j];
-        fill_slot(cost, choice, need, late, price, opens, tracks, later, j, slots, size);
+        fill_slot(cost, choice, need, late, price, count, opens, tracks, later, j, slots, size);
     }
     if (0 < j)
-        fill_first(cost, choice, need, late, price, opens, size);
+        fill_first(cost, choice, need, late, price, count, opens, size);
 }
 
 #endif
@@ -336,14 +361,16 @@ static int plan(const struct day *d, uint8_t *row, struct value *v)
     uint16_t choice[SLOTS * SETS] ZEROS;
     uint16_t need[SETS] ZEROS;
     uint32_t late[SETS] ZEROS, price[SETS] ZEROS;
+    uint8_t count[SETS] ZEROS;
     uint64_t opens[SLOTS] ZEROS;
     size_t size = (size_t)1 << d->trains;
     fill_needing(need, d->boxes, d->trains);
-    fill_late(late, d->revisit, d->trains);
+    fill_count(count, d->trains);
+    fill_late(late, count, d->revisit, size);
     fill_price(price, d, size);
     bar_groups(price, d, size);
     fill_open(opens, d);
-    solve(cost, choice, need, late, price, opens, d->tracks, d->slots, size);
+    solve(cost, choice, need, late, price, count, opens, d->tracks, d->slots, size);
     if (cost[size - 1] == NONE)
         return 0;
     trace(choice, row, d->trains, d->slots, size);

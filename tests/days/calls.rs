@@ -16,7 +16,8 @@ use crate::special::special_texts;
 use crate::stack::compare_in_little_stack;
 use crate::sys;
 use crate::texts::{
-    damaged_texts, grouped_texts, heavy_texts, known_texts, pieced_texts, sound_texts, Named,
+    damaged_texts, grouped_texts, heavy_texts, known_texts, pieced_texts, sound_texts, tied_texts,
+    Named,
 };
 use crate::threads::compare_at_once;
 use crate::{call_answer, call_check, call_plan, call_value, call_workspace};
@@ -150,6 +151,7 @@ pub fn calls() -> bool {
     run.group("known", known_texts());
     run.group("sound", sound_texts());
     run.group("sets", grouped_texts());
+    run.group("ties", tied_texts());
     run.group("crowded", crowded_texts());
     run.group("heavy", heavy_texts());
     run.group("damaged", damaged_texts());

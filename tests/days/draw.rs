@@ -70,15 +70,15 @@ const GROUPED_ONE_IN: usize = 3;
 
 /// A drawn window; narrowing it keeps the home slot inside.
 #[derive(Clone, Copy)]
-struct Window {
-    first: usize,
-    last: usize,
-    home: usize,
+pub struct Window {
+    pub first: usize,
+    pub last: usize,
+    pub home: usize,
 }
 
 impl Window {
     /// Reaches up to `reach` slots to both sides of home, within low..high.
-    fn around(random: &mut Random, home: usize, (low, high): Limits, reach: usize) -> Window {
+    pub fn around(random: &mut Random, home: usize, (low, high): Limits, reach: usize) -> Window {
         let first = home.saturating_sub(random.below(reach + 1)).max(low);
         let last = (home + random.below(reach + 1)).min(high);
         Window { first, last, home }
@@ -100,14 +100,14 @@ impl Window {
 }
 
 /// What decides whether a day is feasible.
-struct Yard {
-    tracks: usize,
-    slots: usize,
-    windows: Vec<Window>,
+pub struct Yard {
+    pub tracks: usize,
+    pub slots: usize,
+    pub windows: Vec<Window>,
 }
 
 impl Yard {
-    fn homes(&self) -> Vec<usize> {
+    pub fn homes(&self) -> Vec<usize> {
         self.windows.iter().map(|window| window.home).collect()
     }
 }
@@ -140,7 +140,11 @@ fn scattered_yard(random: &mut Random) -> Yard {
 }
 
 /// The given slots, each as often as there are tracks, in drawn order.
-fn places(random: &mut Random, slots: impl Iterator<Item = usize>, tracks: usize) -> Vec<usize> {
+pub fn places(
+    random: &mut Random,
+    slots: impl Iterator<Item = usize>,
+    tracks: usize,
+) -> Vec<usize> {
     let mut places: Vec<usize> = slots.flat_map(|slot| vec![slot; tracks]).collect();
     random.shuffle(&mut places);
     places
@@ -288,7 +292,7 @@ fn draw_weight(random: &mut Random) -> usize {
 
 /// A sound day in the yard, with at most `most` assignments within its windows,
 /// which the yard has afterwards by position.
-fn day_in(random: &mut Random, yard: &mut Yard, most: usize) -> Day {
+pub fn day_in(random: &mut Random, yard: &mut Yard, most: usize) -> Day {
     narrow_yard(random, yard, most);
     random.shuffle(&mut yard.windows);
     let numbers = draw_numbers(random, yard.windows.len());

@@ -20,7 +20,7 @@ fn cut(random: &mut Random, mut positions: Vec<usize>, most: usize) -> Vec<Set> 
 
 /// Sets of trains of the same home: where the homes are an allowed assignment,
 /// it keeps them.
-fn of_one_home(random: &mut Random, day: &Day, homes: &[usize]) -> Vec<Set> {
+pub fn of_one_home(random: &mut Random, day: &Day, homes: &[usize]) -> Vec<Set> {
     let most = random.pick(&[2, 3, homes.len()]);
     let at_home = |slot| (0..homes.len()).filter(|&k| homes[k] == slot).collect();
     (1..=day.slots).flat_map(|slot| cut(random, at_home(slot), most)).collect()

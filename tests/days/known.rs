@@ -1,10 +1,10 @@
-//! What 01 says: its days with known outcome and its examples of refusals; and
-//! days made by hand for the baselines of order 1. Those of order 4 stand in
-//! known_sets.rs.
+//! What 01 says: its days with known outcome, P5 as order 5 of 02 changes it,
+//! and its examples of refusals; and days made by hand for the baselines of
+//! order 1. Those of order 4 stand in known_sets.rs, of order 5 in known_ties.rs.
 
 use crate::day_file::{HEAD_NAMES, MOVE_NAMES, TRAIN_NAMES};
 
-/// What 01 says of a text, and 02 of one with groups.
+/// What 01 and 02 say of a text.
 #[derive(Debug)]
 pub enum Known {
     /// The slots by position; revisits, splits and cost.
@@ -60,7 +60,7 @@ const fn known(
 pub const KNOWN_DAYS: [KnownDay; 11] = [
     known("P1", P1_HEAD, P1_TRAINS, P1_MOVES, Known::Best(&[2, 1, 2, 1], [1, 7, 8])),
     known("P4", "4 2 2 0 1", P1_TRAINS, P1_MOVES, Known::Best(&[2, 1, 2, 1], [1, 7, 7])),
-    known("P5", "4 2 2 0 0", P1_TRAINS, P1_MOVES, Known::Best(&[2, 2, 1, 1], [2, 10, 0])),
+    known("P5", "4 2 2 0 0", P1_TRAINS, P1_MOVES, Known::Best(&[2, 1, 2, 1], [1, 7, 0])),
     known("P6", P1_HEAD, P6_TRAINS, P1_MOVES, Known::Best(&[1, 2, 1, 2], [2, 7, 9])),
     known("P7", "4 2 2 4 1", P6_TRAINS, P1_MOVES, Known::Best(&[1, 1, 2, 2], [1, 10, 14])),
     known("P8", "1 1 1 1 1", &["1 1 1"], &[], Known::Best(&[1], [0, 0, 0])),

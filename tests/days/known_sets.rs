@@ -17,7 +17,7 @@ const fn grouped(
     KnownDay { name, head, trains, moves, rest, outcome }
 }
 
-const THREE: &[&str] = &["1 1 2", "2 1 2", "3 1 2"];
+pub const THREE: &[&str] = &["1 1 2", "2 1 2", "3 1 2"];
 const SIX: &[&str] = &["1 1 2", "2 1 2", "3 1 2", "4 1 2", "5 1 2", "6 1 2"];
 
 /// Worked out by hand. P1's allowed rows are 1 1 2 2 (1, 10), 2 2 1 1 (2, 10),

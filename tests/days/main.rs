@@ -8,6 +8,13 @@
 //! with marked memory: what they return is compared, and each byte that was
 //! lent or lies around it.
 //!
+//! Of allowed assignments that cost the same the planner takes the one that is
+//! first by order 5 of 02: fewest revisits, then the smallest sum of slot
+//! numbers, then 01's masks. Known days part each of these from the next, and
+//! group ties of modes generated and calls has days drawn so that they have to
+//! choose. Mode self counts how often they do, and on how many of these days
+//! each of a list of mistakes in that order would give another plan.
+//!
 //!     days expect < day.txt        prints what yard-plan has to print
 //!     days examples PROGRAM DIR    runs the stored days of DIR
 //!     days generated PROGRAM       runs known and drawn days and damaged texts
@@ -17,7 +24,8 @@
 //!                                  with and without areas lent, checking,
 //!                                  valuing, the version
 //!     days stack FUNCTION          calls one with little stack, for calls
-//!     days self                    checks this program on known days
+//!     days self                    checks this program on known days, and that
+//!                                  what is drawn tells mistakes from the papers
 //!
 //! Words: an assignment is 01's row of slots, an interval its stretch, a mask
 //! its set number, a baseline a yardstick of order 1 in 02. A row is here
@@ -42,15 +50,18 @@ mod day_file;
 mod draft;
 mod draw;
 mod draw_sets;
+mod draw_ties;
 mod generated;
 mod groups;
 mod header;
 mod heavy;
 mod known;
 mod known_sets;
+mod known_ties;
 mod lent;
 mod library;
 mod misjudgings;
+mod misorderings;
 mod misplannings;
 mod misreaders;
 mod misreadings;
@@ -67,6 +78,7 @@ mod self_baselines;
 mod self_calls;
 mod self_check;
 mod self_sets;
+mod self_ties;
 mod sets;
 mod special;
 mod stack;

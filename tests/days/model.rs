@@ -1,4 +1,7 @@
-//! The day, and the valuing and the order of assignments (01, The model).
+//! The day, and the valuing and the order of assignments (01, The model; the
+//! order by order 5 of 02).
+
+use std::cmp::Reverse;
 
 // ---------------------------------------------------------------------------
 // The day (01, The model; train numbers by order 2 of 02, groups by order 4)
@@ -102,6 +105,16 @@ pub fn within_tracks(day: &Day, assignment: &[usize]) -> bool {
     loads.iter().all(|&load| load <= day.tracks)
 }
 
+// ---------------------------------------------------------------------------
+// The order of assignments (order 5 of 02, and 01's set numbers)
+// ---------------------------------------------------------------------------
+
+/// The sum of slot numbers over all trains: a slot counts once for each train
+/// that it holds.
+fn slot_sum(assignment: &[usize]) -> usize {
+    assignment.iter().sum()
+}
+
 /// 01's set numbers: slot s, counted from 0 here, adds 2^k for each train
 /// position k, counted from 0 here, that it holds.
 fn slot_masks(assignment: &[usize]) -> [usize; MOST_SLOTS] {
@@ -112,8 +125,20 @@ fn slot_masks(assignment: &[usize]) -> [usize; MOST_SLOTS] {
     masks
 }
 
-/// 01's order of assignments of equal cost: the larger mask at the lowest slot
-/// where the masks differ comes first. Arrays compare in just this way.
-pub fn precedes(assignment: &[usize], other: &[usize]) -> bool {
-    slot_masks(assignment) > slot_masks(other)
+/// What decides which of two assignments comes first: the smaller cost; where
+/// it is equal the fewer revisits, then the smaller sum of slot numbers, and
+/// only then the larger mask at the lowest slot where the masks differ. Ranks
+/// compare in just this way, by one field after the other, and so do arrays.
+#[derive(Clone, Copy, Debug, PartialEq, Eq, PartialOrd, Ord)]
+pub struct Rank {
+    pub cost: usize,
+    pub revisits: usize,
+    pub sum: usize,
+    pub masks: Reverse<[usize; MOST_SLOTS]>,
+}
+
+pub fn rank(day: &Day, assignment: &[usize]) -> Rank {
+    let Value { revisits, cost, .. } = value(day, assignment);
+    let masks = Reverse(slot_masks(assignment));
+    Rank { cost, revisits, sum: slot_sum(assignment), masks }
 }

@@ -1,7 +1,7 @@
 //! The answer to a text: planning it, and the bytes that are printed for it.
 
 use crate::day_file::{read_day, Refusal};
-use crate::model::{precedes, value, within_tracks, Day, Train, Value, MOST_BYTES_READ};
+use crate::model::{rank, value, within_tracks, Day, Train, Value, MOST_BYTES_READ};
 use crate::sets::{has_groups, keeps_groups, ungrouped};
 
 // ---------------------------------------------------------------------------
@@ -41,31 +41,33 @@ pub fn allowed(day: &Day, assignment: &[usize]) -> bool {
     within_tracks(day, assignment) && keeps_groups(day, assignment)
 }
 
-/// The first of the cheapest assignments within the windows that are allowed,
-/// by the given cost; each is tried.
-pub fn first_cheapest(
-    day: &Day,
-    allowed: Allowed,
-    cost: impl Fn(&[usize]) -> usize,
-) -> Option<Vec<usize>> {
+/// Visits each assignment within the windows that is allowed.
+pub fn each_allowed(day: &Day, allowed: Allowed, mut visit: impl FnMut(&[usize])) {
     let mut assignment: Vec<usize> = day.trains.iter().map(|train| train.first).collect();
-    let mut best: Option<(Vec<usize>, usize)> = None;
     loop {
         if allowed(day, &assignment) {
-            let cost = cost(&assignment);
-            let better = match &best {
-                None => true,
-                Some((_, least)) if cost != *least => cost < *least,
-                Some((earlier, _)) => precedes(&assignment, earlier),
-            };
-            if better {
-                best = Some((assignment.clone(), cost));
-            }
+            visit(&assignment);
         }
         if !step(day, &mut assignment) {
-            return best.map(|(assignment, _)| assignment);
+            return;
         }
     }
+}
+
+/// The allowed assignment of the lowest rank, by the given ranks; each is tried.
+pub fn first_by<R: Ord>(
+    day: &Day,
+    allowed: Allowed,
+    rank: impl Fn(&[usize]) -> R,
+) -> Option<Vec<usize>> {
+    let mut first: Option<(R, Vec<usize>)> = None;
+    each_allowed(day, allowed, |assignment| {
+        let rank = rank(assignment);
+        if first.as_ref().is_none_or(|(lowest, _)| rank < *lowest) {
+            first = Some((rank, assignment.to_vec()));
+        }
+    });
+    first.map(|(_, assignment)| assignment)
 }
 
 /// The best plan.
@@ -75,7 +77,7 @@ pub fn best(day: &Day) -> Option<Plan> {
 
 /// The best plan among assignments of the caller's choice.
 pub fn best_by(day: &Day, allowed: Allowed) -> Option<Plan> {
-    let assignment = first_cheapest(day, allowed, |assignment| value(day, assignment).cost)?;
+    let assignment = first_by(day, allowed, |assignment| rank(day, assignment))?;
     let numbers = day.trains.iter().map(|train| train.number).collect();
     let value = value(day, &assignment);
     Some(Plan { numbers, assignment, value })

@@ -8,13 +8,14 @@ use crate::known::{
     day_text, Known, EDGES, KNOWN_DAYS, KNOWN_VALUES, P1_MOVES, P1_TRAINS, SMALL_INPUTS, TEXTS,
 };
 use crate::model::{
-    precedes, value, within_tracks, within_windows, Value, MOST_BYTES_ACCEPTED, MOST_BYTES_PRINTED,
+    rank, value, within_tracks, within_windows, Value, MOST_BYTES_ACCEPTED, MOST_BYTES_PRINTED,
     MOST_BYTES_READ, MOST_BYTES_UNGROUPED,
 };
 use crate::plan::{answer, best, expected, Answer};
 use crate::self_baselines::check_baselines;
 use crate::self_calls::check_calls;
 use crate::self_sets::check_sets;
+use crate::self_ties::check_ties;
 use crate::special::{dearest_day, greatest_day, greatest_ungrouped, last_move, padded};
 
 /// 01's two files of case P1, as it prints them.
@@ -72,6 +73,8 @@ fn check_values(tests: &mut Tests) {
         let found = [revisits, splits, cost];
         tests.check(found == numbers, &format!("{name}: {found:?}, but 01 says {numbers:?}"));
     }
+    let day = read_day(&day_text("4 2 2 0 1", P1_TRAINS, P1_MOVES)).expect("a good day");
+    let precedes = |one: &[usize], other: &[usize]| rank(&day, one) < rank(&day, other);
     tests.check(precedes(&[2, 1, 2, 1], &[1, 2, 1, 2]), "P4: the later row comes first");
     tests.check(!precedes(&[1, 2, 1, 2], &[2, 1, 2, 1]), "P4: each row comes first");
     let day = read_day(P1_FILE.as_bytes()).expect("a good day");
@@ -147,5 +150,6 @@ pub fn check_self() -> bool {
     check_baselines(&mut tests);
     check_calls(&mut tests);
     check_sets(&mut tests);
+    check_ties(&mut tests);
     tests.finish()
 }

@@ -4,9 +4,11 @@
 use crate::damage::draw_damaged;
 use crate::day_file::{read_day, write_day};
 use crate::draw::{draw_day, draw_grouped, draw_sound, Random, DAMAGED_MOST};
+use crate::draw_ties::{draw_changed, draw_tied};
 use crate::heavy::{draw_shown, SHOWN_BITS};
 use crate::known::{EDGES, KNOWN_DAYS, SMALL_INPUTS, TEXTS};
 use crate::known_sets::{GROUPED_DAYS, GROUP_EDGES, GROUP_TEXTS};
+use crate::known_ties::TIED_DAYS;
 use crate::model::Day;
 use crate::plan::broken;
 use crate::process::escaped;
@@ -14,6 +16,8 @@ use crate::special::{greatest_day, greatest_ungrouped, last_move, padded};
 
 const SOUND_DAYS: usize = 2500;
 const GROUPED_DAYS_DRAWN: usize = 1500;
+const TIED_DAYS_DRAWN: usize = 900;
+const CHANGED_DAYS: usize = 700;
 const DAMAGED_TEXTS: usize = 4000;
 const HEAVY_DAYS: usize = 8;
 const PIECED_TEXTS: usize = 24;
@@ -23,6 +27,8 @@ const DAMAGED_SEED: u64 = 2_000_000;
 const PIECES_SEED: u64 = 3_000_000;
 const HEAVY_SEED: u64 = 8_000_000;
 const GROUPED_SEED: u64 = 11_000_000;
+const TIED_SEED: u64 = 13_000_000;
+const CHANGED_SEED: u64 = 14_000_000;
 
 /// How to find a text again, and the text.
 pub type Named = (String, Vec<u8>);
@@ -30,6 +36,7 @@ pub type Named = (String, Vec<u8>);
 pub fn known_texts() -> impl Iterator<Item = Named> {
     let days = KNOWN_DAYS.iter().chain(&SMALL_INPUTS).chain(&EDGES);
     let days = days.chain(&GROUPED_DAYS).chain(&GROUP_EDGES);
+    let days = days.chain(TIED_DAYS.iter().map(|tied| &tied.day));
     let days = days.map(|day| (day.name.to_string(), day.text()));
     let texts = TEXTS.iter().chain(&GROUP_TEXTS);
     days.chain(texts.map(|(name, text, _)| (name.to_string(), text.as_bytes().to_vec())))
@@ -55,6 +62,19 @@ pub fn sound_texts() -> impl Iterator<Item = Named> {
 pub fn grouped_texts() -> impl Iterator<Item = Named> {
     let seeds = (GROUPED_SEED..).take(GROUPED_DAYS_DRAWN);
     seeds.map(|seed| drawn(seed, &draw_grouped(&mut Random(seed), DAMAGED_MOST)))
+}
+
+/// Days on which plans cost the same, with their seeds: mode self holds that
+/// the order of order 5 has to choose on them.
+pub fn tied_days() -> impl Iterator<Item = (u64, Day)> {
+    let (tied, changed) =
+        ((TIED_SEED..).take(TIED_DAYS_DRAWN), (CHANGED_SEED..).take(CHANGED_DAYS));
+    let tied = tied.map(|seed| (seed, draw_tied(&mut Random(seed))));
+    tied.chain(changed.map(|seed| (seed, draw_changed(&mut Random(seed)))))
+}
+
+pub fn tied_texts() -> impl Iterator<Item = Named> {
+    tied_days().map(|(seed, day)| drawn(seed, &day))
 }
 
 /// For each width days on which a sum of so many bits would show.

@@ -1,5 +1,5 @@
 -- What the functions over tables are given: tables that reach as far as the sets and slots asked for, and entries so small that what a slot
--- costs fits 32 bits, so that every sum over slots fits 64 and stays below `noCost`. And the cells that they find.
+-- costs fits 32 bits and its key 43, so that every sum over slots fits 64 and stays below `noCost`. And the cells that they find.
 -- Assumes nothing.
 use mathlib.Core.List.{List}
 use Prim.Native.Nat.{ℕ, suc, _+_, _-_, _*_, _^_, _≤_, _<_}
@@ -13,10 +13,9 @@ use Rattle.optimum.specs.Least.{Cell}
 use Rattle.optimum.specs.Stages.{cell, tab, choice}
 use Rattle.staging.specs.Tables.{Tables, barred, noCost, fromTables, costFromTables, keyFromTables}
 
--- what a slot costs in which s is served and `rest` remains, where the split moves of s cost `splits`: with the price of s, and what s leaves
--- of r, staging's `costFromTables`
-abbrev pub slotSum : List ℕ → List ℕ → ℕ → ℕ → ℕ → ℕ
-slotSum need late splits rest s = at late (bitAnd s (at need rest)) + splits
+-- the trains of s with a supplier in `rest`
+abbrev pub lateSet : List ℕ → ℕ → ℕ → ℕ
+lateSet need rest s = bitAnd s (at need rest)
 
 -- tables for the sets below `size` and for the first `slots` slots
 pub record Given (size slots : ℕ) (x : Tables) : Type 0 where
@@ -25,14 +24,17 @@ pub record Given (size slots : ℕ) (x : Tables) : Type 0 where
   pub needs : size ≤ length (x .need)
   pub lates : size ≤ length (x .late)
   pub prices : size ≤ length (x .price)
+  pub counts : size ≤ length (x .count)
   pub opened : slots ≤ length (x .opens)
+  -- a set has at most 12 trains
+  pub few : (m : ℕ) → m < size → at (x .count) m ≤ 12
   -- what a slot costs in which a set is served that is not barred
   pub fits : (t r s : ℕ) → r < size → Sub s r → at (x .price) s < barred → costFromTables x t r s < 2 ^ 32
 
 -- values that a cell of slot j + 1 reads where r remains: of what its choices leave, none, or what at most 8 slots come to
 pub record Rests (x : Tables) (cost : List ℕ) (j r : ℕ) : Type 0 where
   pub long : r < length cost
-  pub low : (s : ℕ) → Sub s r → T (fromTables x (suc j) r s) → at cost (r - s) < noCost → at cost (r - s) ≤ 8 * 2 ^ 32
+  pub low : (s : ℕ) → Sub s r → T (fromTables x (suc j) r s) → at cost (r - s) < noCost → at cost (r - s) ≤ 8 * 2 ^ 43
 
 -- the cell of stage j + 1, where r remains and `cost` holds the values of the next stage
 abbrev pub cellFrom : Tables → List ℕ → ℕ → ℕ → Cell
@@ -55,6 +57,8 @@ given-less m j g a b =
       needs = omega (arith, g .needs);
       lates = omega (arith, g .lates);
       prices = omega (arith, g .prices);
+      counts = omega (arith, g .counts);
       opened = omega (arith, g .opened);
+      few = λ m l. g .few m (omega arith);
       fits = λ t r s l. g .fits t r s (omega arith);
     }

@@ -1,19 +1,22 @@
 -- The test and the contribution from the tables (staging's Tables.antt), as the loops use them: at stage j + 1 the test is that the price
--- is not barred and the set within the open set of index j; a contribution fits 32 bits; the cell of the last stage.
+-- is not barred and the set within the open set of index j; a key fits 43 bits; the cell of the last stage.
 -- Assumes nothing.
 use mathlib.Core.Path.{_≡_, refl, sym, ap, ap₂, _∙_, subst}
 use mathlib.Core.Bool.{_&&_}
-use Prim.Native.Nat.{ℕ, suc, _-_, _^_, _<_}
+use mathlib.Core.List.{List}
+use Prim.Native.Nat.{ℕ, suc, _+_, _-_, _*_, _^_, _≤_, _<_}
 use native.Mathlib.Omega.{arith}
-use lib.Bits.{bitAnd}
+use lib.Bits.{bitAnd, and-le-l}
 use lib.Dec.{T, ltb, ltb→lt, eqb→eq}
 use borrow.Author.Tests.{lt-ltb, eq-eqb}
 use Rattle.fold.specs.Test.{both-of}
-use Rattle.sets.specs.Subset.{Sub, subset, sub-refl}
+use Rattle.sets.specs.Subset.{Sub, subset, sub-le, sub-refl, sub-trans}
 use Rattle.optimum.specs.Workspace.{at}
+use Rattle.optimum.specs.Offers.{offer-yes, offer-lt}
+use Rattle.optimum.specs.Tried.{Tried}
 use Rattle.optimum.specs.Direct.{last-whole}
-use Rattle.staging.specs.Tables.{Tables, barred, noCost, fromTables, keyFromTables}
-use Rattle.cells.specs.Given.{slotSum, Given, lastFrom}
+use Rattle.staging.specs.Tables.{Tables, barred, noCost, fromTables, costFromTables, setKeyFromTables, keyFromTables, costUnit, revisitUnit}
+use Rattle.cells.specs.Given.{lateSet, Given, Rests, lastFrom}
 
 -- ---- the test
 
@@ -42,24 +45,64 @@ serve-priced x t r s h = ltb→lt (at (x .price) s) barred (both-of (ltb (at (x 
 
 -- ---- the contribution
 
-pub key-sums : (x : Tables) (t r s : ℕ) → slotSum (x .need) (x .late) (at (x .price) s) (r - s) s ≡ keyFromTables x t r s
+-- every set of a cell adds the trains that wait alike
+pub key-waits : (x : Tables) (t r s : ℕ) → keyFromTables x t r s ≡ setKeyFromTables x t r s + at (x .count) r
 unfolding keyFromTables
-key-sums x t r s = refl
+key-waits x t r s = refl
 
 module _ {size slots : ℕ} {x : Tables} (g : Given size slots x) where
-  pub served-fits : (t r s : ℕ) → r < size → Sub s r → T (fromTables x t r s) → keyFromTables x t r s < 2 ^ 32
-  unfolding keyFromTables
-  served-fits t r s l hs h = g .fits t r s l hs (serve-priced x t r s h)
+  -- at most 12 trains revisit
+  pub few-late : (rest s : ℕ) → s < size → at (x .count) (lateSet (x .need) rest s) ≤ 12
+  few-late rest s l = g .few (lateSet (x .need) rest s) (omega (arith, and-le-l s (at (x .need) rest)))
+
+  -- a key of a set that is not barred, without and with the trains that wait
+  pub priced-fits : (t r s : ℕ) → r < size → Sub s r → at (x .price) s < barred → setKeyFromTables x t r s + at (x .count) r < 2 ^ 43
+  priced-fits t r s l hs p = omega (arith, g .fits t r s l hs p, few-late (r - s) s (omega (arith, sub-le s r hs)), g .few r l)
+
+  pub served-fits : (t r s : ℕ) → r < size → Sub s r → T (fromTables x t r s) → keyFromTables x t r s < 2 ^ 43
+  served-fits t r s l hs h = omega (arith, key-waits x t r s, priced-fits t r s l hs (serve-priced x t r s h))
+
+  -- what a walk through the sets of m has found stays low, with the trains that wait too
+  pub found-low : {cost : List ℕ} {j r m s b c : ℕ} → Rests x cost j r → r < size → Sub m r
+      → Tried (fromTables x) (setKeyFromTables x) noCost (at cost) (suc j) r m s b c → b < noCost → b + at (x .count) r < noCost
+  found-low {cost} {j} {r} {m} {c = c} rests l hm h found =
+      let hc : Sub c r = sub-trans c m r (h .by .within found) hm in
+      let (may, left) = offer-lt noCost (fromTables x (suc j) r c) (at cost (r - c)) (setKeyFromTables x (suc j) r c) (omega (arith, h .by .reached found)) in
+      omega (
+        arith,
+        h .by .reached found,
+        offer-yes noCost (fromTables x (suc j) r c) (at cost (r - c)) (setKeyFromTables x (suc j) r c) may left,
+        rests .low c hc may left,
+        priced-fits (suc j) r c l hc (serve-priced x (suc j) r c may),
+      )
 
   -- the whole of r in the last slot, which leaves nothing
   module _ (j r : ℕ) (l : r < size) (may : T (fromTables x (suc j) r r)) where
     nothing : r - r ≡ 0
     nothing = omega arith
 
-    pub whole-fits : slotSum (x .need) (x .late) (at (x .price) r) 0 r < 2 ^ 32
-    whole-fits = subst (λ k. slotSum (x .need) (x .late) (at (x .price) r) k r < 2 ^ 32) nothing (unfold keyFromTables in served-fits (suc j) r r l (sub-refl r) may)
+    -- the trains of r that revisit where `rest` remains: what the slot costs, and its key
+    costWith : ℕ → ℕ
+    costWith rest = at (x .late) (lateSet (x .need) rest r) + at (x .price) r
 
-    pub whole-cell : (slotSum (x .need) (x .late) (at (x .price) r) 0 r ≡ lastFrom x j r .value) × (r ≡ lastFrom x j r .set)
+    keyWith : ℕ → ℕ
+    keyWith rest = costWith rest * costUnit + at (x .count) (lateSet (x .need) rest r) * revisitUnit + at (x .count) r
+
+    pub whole-fits : at (x .late) (lateSet (x .need) 0 r) + at (x .price) r < 2 ^ 32
+    unfolding costWith
+    whole-fits = subst (λ k. costWith k < 2 ^ 32) nothing (g .fits (suc j) r r l (sub-refl r) (serve-priced x (suc j) r r may))
+
+    abbrev pub wholeKey : ℕ
+    wholeKey = (at (x .late) (lateSet (x .need) 0 r) + at (x .price) r) * costUnit + at (x .count) (lateSet (x .need) 0 r) * revisitUnit + at (x .count) r
+
+    whole-key : wholeKey ≡ keyFromTables x (suc j) r r
+    unfolding keyWith costWith
+    whole-key = ap keyWith (sym nothing) ∙ sym (key-waits x (suc j) r r)
+
+    pub whole-low : wholeKey < 2 ^ 43
+    whole-low = omega (arith, whole-key, served-fits (suc j) r r l (sub-refl r) may)
+
+    pub whole-cell : (wholeKey ≡ lastFrom x j r .value) × (r ≡ lastFrom x j r .set)
     whole-cell =
         let (v, s) = last-whole (fromTables x) (keyFromTables x) noCost (suc j) r may (omega (arith, served-fits (suc j) r r l (sub-refl r) may)) in
-        (ap (λ k. slotSum (x .need) (x .late) (at (x .price) r) k r) (sym nothing) ∙ key-sums x (suc j) r r ∙ v, s)
+        (whole-key ∙ v, s)

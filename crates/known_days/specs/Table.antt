@@ -15,7 +15,7 @@ use Rattle.fold.specs.Table.{allPass, all-hold}
 use Rattle.fold.specs.Fold
 use Rattle.fold.specs.Fold.{sum, count, each, lowest}
 use Rattle.sets.specs.Mask.{mask}
-use Rattle.model.specs.Model.{Outcome, cost, fitting, grouped, apart, kept, parted, allowed, byKey, precedes, lateSupplier, revisiting, revisits, splitBoxes, splitsTo, splits, weighed, inSlots, inWindow, load, roomy, slotMask, lower, bound, exceeds, overbooked, inTime, outsideBoxes}
+use Rattle.model.specs.Model.{Outcome, cost, fitting, grouped, apart, kept, parted, allowed, byKey, slotTotal, bySets, precedes, lateSupplier, revisiting, revisits, splitBoxes, splitsTo, splits, weighed, inSlots, inWindow, load, roomy, slotMask, lower, bound, exceeds, overbooked, inTime, outsideBoxes}
 use Rattle.model.specs.Rows.{allRows}
 use Rattle.model.specs.Order.{pick}
 use Rattle.model.specs.BestOf.{bestOf}
@@ -44,10 +44,10 @@ table =
     ∷ values (paperDay 1 1 1) (2 ∷ 1 ∷ 2 ∷ 1 ∷ []) (gives (figures 1 7 8))
     ∷ values (paperDay 1 1 1) (2 ∷ 1 ∷ 1 ∷ 2 ∷ []) (gives (figures 1 15 16))
     ∷ values (paperDay 1 1 1) (1 ∷ 1 ∷ 2 ∷ 2 ∷ []) (gives (figures 1 10 11))
-    -- P4 weights 0 and 1, P5 weights 0 and 0
+    -- P4 weights 0 and 1, P5 weights 0 and 0 as order 5 has it
     ∷ best (paperDay 0 1 1) (2 ∷ 1 ∷ 2 ∷ 1 ∷ []) (figures 1 7 7)
     ∷ later (paperDay 0 1 1) (2 ∷ 1 ∷ 2 ∷ 1 ∷ []) (1 ∷ 2 ∷ 1 ∷ 2 ∷ []) 7
-    ∷ best (paperDay 0 0 1) (2 ∷ 2 ∷ 1 ∷ 1 ∷ []) (figures 2 10 0)
+    ∷ best (paperDay 0 0 1) (2 ∷ 1 ∷ 2 ∷ 1 ∷ []) (figures 1 7 0)
     -- P6 train 4 bound to slot 2, P7 the same with weights 4 and 1
     ∷ best (paperDay 1 1 2) (1 ∷ 2 ∷ 1 ∷ 2 ∷ []) (figures 2 7 9)
     ∷ best (paperDay 4 1 2) (1 ∷ 1 ∷ 2 ∷ 2 ∷ []) (figures 1 10 14)
@@ -65,6 +65,15 @@ table =
     ∷ best (openDay 2 1 2 (move 1 2 1 ∷ move 2 1 1 ∷ [])) (2 ∷ 1 ∷ []) (figures 1 2 3)
     ∷ best (openDay 2 2 2 (move 1 2 1 ∷ move 2 1 1 ∷ [])) (1 ∷ 1 ∷ []) (figures 0 0 0)
     ∷ best (openDay 3 1 3 (move 1 2 1 ∷ [])) (3 ∷ 2 ∷ 1 ∷ []) (figures 0 1 1)
+    -- order 5, each key before the next. Fewer revisits, though the sum of slot numbers is larger and the set number of slot 1 smaller; a
+    -- smaller sum, though that set number is smaller (3 and 4), also with groups, and though each slot is served in both rows; set
+    -- numbers, where the three are equal. Cost before revisits: P6, whose row has two where one of cost 11 has one
+    ∷ best (dayOf 2 1 3 0 0 (1 ∷ 2 ∷ []) (3 ∷ 2 ∷ []) (move 1 2 1 ∷ [])) (3 ∷ 2 ∷ []) (figures 0 1 0)
+    ∷ later (dayOf 2 1 3 0 0 (1 ∷ 2 ∷ []) (3 ∷ 2 ∷ []) (move 1 2 1 ∷ [])) (3 ∷ 2 ∷ []) (1 ∷ 2 ∷ []) 0
+    ∷ best (openDay 3 2 2 (move 1 2 1 ∷ [])) (1 ∷ 1 ∷ 2 ∷ []) (figures 0 0 0)
+    ∷ later (openDay 3 2 2 (move 1 2 1 ∷ [])) (1 ∷ 1 ∷ 2 ∷ []) (2 ∷ 2 ∷ 1 ∷ []) 0
+    ∷ best (inGroups (1 ∷ 1 ∷ 0 ∷ []) (openDay 3 2 2 [])) (1 ∷ 1 ∷ 2 ∷ []) (figures 0 0 0)
+    ∷ later (openDay 3 1 3 (move 1 2 1 ∷ [])) (3 ∷ 2 ∷ 1 ∷ []) (3 ∷ 1 ∷ 2 ∷ []) 1
     -- the limits of the head on both sides: trains and tracks 1 and 12, 0 and 13; slots 1 and 8, 0 and 9; weights 0 and 65535, 65536
     ∷ accepted (openDay 12 12 8 []) true
     ∷ accepted (openDay 1 1 1 []) true
@@ -199,7 +208,7 @@ table =
 
 -- the one computation
 computed : T (allPass passes table)
-unfolding allPass passes sameOutcome sameInt sameComparison sameAnswer sameList isRow isNone isInterval noInterval table sum count each Fold.some lowest mask lateSupplier revisiting revisits splitBoxes splitsTo splits weighed cost inSlots inWindow load roomy fitting grouped apart kept parted allowed slotMask lower precedes bound exceeds overbooked allRows byKey pick bestOf overbookedFrom overbookedFirst overbookedLast firstOverbooked within headRanges trainRanges shaped numberBefore trainSound unused positionSound groupSound pairSound receiverSound sound strays overfull valued planned inTime trackFree waits suits earliest comeTo waitingSupplier outsideBoxes priority select fillTo servedTo against compared
+unfolding allPass passes sameOutcome sameInt sameComparison sameAnswer sameList isRow isNone isInterval noInterval table sum count each Fold.some lowest mask lateSupplier revisiting revisits splitBoxes splitsTo splits weighed cost inSlots inWindow load roomy fitting grouped apart kept parted allowed slotMask lower slotTotal bySets precedes bound exceeds overbooked allRows byKey pick bestOf overbookedFrom overbookedFirst overbookedLast firstOverbooked within headRanges trainRanges shaped numberBefore trainSound unused positionSound groupSound pairSound receiverSound sound strays overfull valued planned inTime trackFree waits suits earliest comeTo waitingSupplier outsideBoxes priority select fillTo servedTo against compared
 computed = tt
 
 pub every-line : (l : Line) → List·Memᴰ l table → Holds l

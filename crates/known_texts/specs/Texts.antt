@@ -17,7 +17,7 @@ use Rattle.fold.specs.Fold.{sum, count, each, lowest}
 use Rattle.fold.specs.Table.{allPass, all-hold}
 use Rattle.fold.specs.Listed.{listed, joined}
 use Rattle.sets.specs.Mask.{mask}
-use Rattle.model.specs.Model.{Yard, lateSupplier, revisiting, revisits, splitBoxes, splitsTo, splits, weighed, cost, inSlots, inTime, inWindow, load, roomy, fitting, grouped, apart, kept, parted, allowed, slotMask, lower, byKey, precedes, bound, exceeds, overbooked}
+use Rattle.model.specs.Model.{Yard, lateSupplier, revisiting, revisits, splitBoxes, splitsTo, splits, weighed, cost, inSlots, inTime, inWindow, load, roomy, fitting, grouped, apart, kept, parted, allowed, slotMask, lower, byKey, slotTotal, bySets, precedes, bound, exceeds, overbooked}
 use Rattle.model.specs.Rows.{allRows}
 use Rattle.model.specs.Order.{pick}
 use Rattle.model.specs.BestOf.{bestOf}
@@ -323,7 +323,7 @@ passes (writesPlan d row bytes a) = sameAnswer eqb (planWrites dayLimits (yard d
 
 -- the one computation
 computed : T (allPass passes table)
-unfolding allPass passes sameYard isGiven sameAnswer sameList table readDay readFile readTrains readMoves headNames trainNames moveNames groupNames movesEnd readGroups position stored Reading.dayOf byte names field row more value within headRanges trainRanges moveRanges groupRanges lowest writes dayText fileOf fileText moveRows memberRows groupRows listed joined rowText rowsText digitsWithin planLines valueNames slotNames sound shaped positionSound groupSound trainSound numberBefore unused receiverSound pairSound each Fold.some sum count lateSupplier revisiting revisits splitBoxes splitsTo splits weighed inTime inWindow load roomy strays overfull answerText refusalText lineNames intervalNames cost inSlots fitting grouped apart kept parted allowed mask slotMask lower precedes bound exceeds overbooked allRows byKey pick bestOf overbookedFrom overbookedFirst overbookedLast firstOverbooked
+unfolding allPass passes sameYard isGiven sameAnswer sameList table readDay readFile readTrains readMoves headNames trainNames moveNames groupNames movesEnd readGroups position stored Reading.dayOf byte names field row more value within headRanges trainRanges moveRanges groupRanges lowest writes dayText fileOf fileText moveRows memberRows groupRows listed joined rowText rowsText digitsWithin planLines valueNames slotNames sound shaped positionSound groupSound trainSound numberBefore unused receiverSound pairSound each Fold.some sum count lateSupplier revisiting revisits splitBoxes splitsTo splits weighed inTime inWindow load roomy strays overfull answerText refusalText lineNames intervalNames cost inSlots fitting grouped apart kept parted allowed mask slotMask lower slotTotal bySets precedes bound exceeds overbooked allRows byKey pick bestOf overbookedFrom overbookedFirst overbookedLast firstOverbooked
 computed = tt
 
 -- the bound of `accepted-size` (the day file's Size.antt) is reached

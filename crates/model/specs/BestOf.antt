@@ -12,9 +12,9 @@ use lib.Dec.{T, eqb}
 use lib.Seq.{ext-getD}
 use borrow.Author.Tests.{eq-eqb, eqb-true}
 use Rattle.sets.specs.Mask.{has, has-mask}
-use Rattle.model.specs.Model.{Yard, slotOf, slotMask, cost, allowed, precedes, lower, byKey, Best, NoRow}
+use Rattle.model.specs.Model.{Yard, received, slotOf, revisits, cost, allowed, slotMask, lower, byKey, slotTotal, bySets, precedes, Best, NoRow}
 use Rattle.model.specs.Rows.{Fitting, allowed-is, allRows, allowed-listed}
-use Rattle.model.specs.Order.{Order, key-not, key-order, converse, along, lower-order, lower-same, pick, Picked, picked}
+use Rattle.model.specs.Order.{Order, key-not, key-order, key-total, converse, along, lower-order, lower-same, pick, Picked, picked}
 
 -- ---- definition
 
@@ -51,16 +51,27 @@ module _ (y : Yard) where
           (eqb-true (slotOf s i) (suc t)
           (sym (has-slot (y .trains) s (suc t) i h) ∙ ap (λ m. has m i) (sym (same t (omega arith))) ∙ has-slot (y .trains) r (suc t) i h ∙ eq-eqb (slotOf r i) (suc t) z))
 
+  sets-order : Order (bySets y)
+  unfolding bySets
+  sets-order =
+      along (λ f g. lower (y .slots) g f) (converse (lower (y .slots)) (lower-order (y .slots))) (λ r t. slotMask (y .trains) r (suc t))
+
   pub precedes-order : Order (precedes y)
   unfolding precedes
   precedes-order =
-      along (λ f g. lower (y .slots) g f) (converse (lower (y .slots)) (lower-order (y .slots))) (λ r t. slotMask (y .trains) r (suc t))
+      key-order (revisits (y .trains) (received y)) (byKey (slotTotal (y .trains)) (bySets y)) (key-order (slotTotal (y .trains)) (bySets y) sets-order)
 
   -- of two different allowed rows one comes before the other
+  sets-total : (r s : List ℕ) → T (allowed y r) → T (allowed y s) → (T (bySets y r s) → ⊥) → (T (bySets y s r) → ⊥) → r ≡ s
+  unfolding bySets
+  sets-total r s p q a b =
+      same-masks r s p q (lower-same (y .slots) (λ t. slotMask (y .trains) r (suc t)) (λ t. slotMask (y .trains) s (suc t)) b a)
+
   pub precedes-total : (r s : List ℕ) → T (allowed y r) → T (allowed y s) → (T (precedes y r s) → ⊥) → (T (precedes y s r) → ⊥) → r ≡ s
   unfolding precedes
   precedes-total r s p q a b =
-      same-masks r s p q (lower-same (y .slots) (λ t. slotMask (y .trains) r (suc t)) (λ t. slotMask (y .trains) s (suc t)) b a)
+      key-total (revisits (y .trains) (received y)) (byKey (slotTotal (y .trains)) (bySets y)) r s
+      (key-total (slotTotal (y .trains)) (bySets y) r s (sets-total r s p q)) a b
 
   -- ---- at most one best plan
 

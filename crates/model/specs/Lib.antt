@@ -3,6 +3,7 @@ pub mod Rows
 pub mod Groups
 pub mod Order
 pub mod BestOf
+pub mod Foremost
 pub mod Overbooked
 pub mod Program
 pub mod Bridge

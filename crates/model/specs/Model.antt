@@ -169,9 +169,17 @@ lower k f g = some k λ t. ltb (f t) (g t) && each t λ u. eqb (f u) (g u)
 unfoldable pub byKey : {X : Type 0} → (X → ℕ) → (X → X → Bool) → X → X → Bool
 byKey key before r s = ltb (key r) (key s) || (eqb (key r) (key s) && before r s)
 
--- r comes before s (01): it has the larger set number at the lowest slot where their set numbers differ
+-- the sum of slot numbers over all trains
+unfoldable pub slotTotal : ℕ → List ℕ → ℕ
+slotTotal n row = sum n (slotOf row)
+
+-- 01's order: r has the larger set number at the lowest slot where the set numbers of r and s differ
+unfoldable pub bySets : Yard → List ℕ → List ℕ → Bool
+bySets y r s = lower (y .slots) (λ t. slotMask (y .trains) s (suc t)) (λ t. slotMask (y .trains) r (suc t))
+
+-- r comes before s (order 5 of 02): fewer revisits, then a smaller sum of slot numbers, and only then 01's order
 unfoldable pub precedes : Yard → List ℕ → List ℕ → Bool
-precedes y r s = lower (y .slots) (λ t. slotMask (y .trains) s (suc t)) (λ t. slotMask (y .trains) r (suc t))
+precedes y = byKey (revisits (y .trains) (received y)) (byKey (slotTotal (y .trains)) (bySets y))
 
 -- the best plan: allowed, no allowed row is cheaper, and none of equal cost comes before it
 pub record Best (y : Yard) (row : List ℕ) : Type 0 where

@@ -72,6 +72,14 @@ module _ {X : Type 0} (key : X → ℕ) (before : X → X → Bool) where
         ⊎-elim (λ k. omega arith) (λ k. o .through r s u (p .1 (omega arith)) (q .1 (omega arith)) (k .1)) (key-cases r u t);
   }
 
+  -- where the order leaves no two values of equal key apart, nor does the key before it
+  pub key-total : (r s : X) → ((T (before r s) → ⊥) → (T (before s r) → ⊥) → r ≡ s) → (T (byKey key before r s) → ⊥) → (T (byKey key before s r) → ⊥) → r ≡ s
+  key-total r s total f g =
+      let (a, p) = key-not r s f in
+      let (b, q) = key-not s r g in
+      let e : key r ≡ key s = le-antisymm b a in
+      total (p e) (q (sym e))
+
 -- ---- the lowest place where two sequences differ
 
 -- from the first place: a key before the order of the rest
@@ -134,6 +142,25 @@ lower-same (suc k) f g a b t h =
     at : f 0 ≡ g 0 → ((t : ℕ) → t < k → f (suc t) ≡ g (suc t)) → (t : ℕ) → t < suc k → f t ≡ g t
     at e later zero h = e
     at e later (suc t) h = later t (le-of-suc-le-suc h)
+
+-- f is not lower: at the lowest place where the two differ it is the larger
+pub lower-not : (k : ℕ) (f g : ℕ → ℕ) → (T (lower k f g) → ⊥) → (t : ℕ) → t < k → ((u : ℕ) → u < t → f u ≡ g u) → g t ≤ f t
+unfolding lower
+lower-not k f g a t h same =
+    ⊎-elim (λ (l : g t ≤ f t). l)
+    (λ (l : f t < g t).
+    absurd
+    (a
+    (some-at k (λ t. ltb (f t) (g t) && each t λ u. eqb (f u) (g u)) t h
+    (both (ltb (f t) (g t)) (each t λ u. eqb (f u) (g u)) (lt→ltb (f t) (g t) l) (each-i t (λ u. eqb (f u) (g u)) (λ u m. of-true (eq-eqb (f u) (g u) (same u m))))))))
+    (le-or-lt (g t) (f t))
+
+pub not-lower : (k : ℕ) (f g : ℕ → ℕ) → ((t : ℕ) → t < k → ((u : ℕ) → u < t → f u ≡ g u) → g t ≤ f t) → T (lower k f g) → ⊥
+unfolding lower
+not-lower k f g a w =
+    let (t, l, p) = some-of k (λ t. ltb (f t) (g t) && each t λ u. eqb (f u) (g u)) w in
+    let (less, same) = both-of (ltb (f t) (g t)) (each t λ u. eqb (f u) (g u)) p in
+    omega (arith, ltb→lt (f t) (g t) less, a t l (λ u m. eqb→eq (f u) (g u) (each-at t (λ u. eqb (f u) (g u)) same u m)))
 
 -- ---- of the values of a list that pass a test, one that no other comes before
 

@@ -7,7 +7,7 @@
 use mathlib.Core.Path.{_≡_, refl, sym, ap, _∙_, subst}
 use mathlib.Core.Logic.{⊎-elim}
 use mathlib.Core.Bool.{Bool, true, false, cond, _&&_}
-use Prim.Native.Nat.{ℕ, zero, suc, _≤_, _<_}
+use Prim.Native.Nat.{ℕ, zero, suc, _+_, _≤_, _<_}
 use native.Mathlib.Omega.{arith}
 use native.Mathlib.Nat.{eq-or-lt-of-le, le-antisymm}
 use lib.Dec.{ltb}
@@ -118,6 +118,36 @@ module _ {inf : ℕ} {candidate : ℕ → ℕ} {r s b c : ℕ} where
         least = λ u hu k. omega (arith, e u hu, h .least u hu k);
         largest = λ u hu k i q. h .largest u hu k (e u hu ∙ i) q;
       }
+
+  -- where all candidates below inf are x more, so is the least; where none is below inf, none is
+  module _ (candidate′ : ℕ → ℕ) (x : ℕ)
+      (more : (u : ℕ) → candidate u < inf → candidate′ u ≡ candidate u + x) (over : (u : ℕ) → inf ≤ candidate u → inf ≤ candidate′ u) where
+    pub least-raise : Least inf candidate r s b c → b < inf → b + x < inf → Least inf candidate′ r s (b + x) c
+    least-raise h l fits =
+        record {
+          capped = omega arith;
+          nothing = λ e. absurd (omega arith);
+          within = λ q. h .within l;
+          tried = λ q. h .tried l;
+          reached = λ q. omega (arith, h .reached l, more c (omega (arith, h .reached l)));
+          least = λ u hu k.
+              ⊎-elim (λ (m : inf ≤ candidate u). omega (arith, over u m)) (λ (m : candidate u < inf). omega (arith, more u m, h .least u hu k)) (le-or-lt inf (candidate u));
+          largest = λ u hu k e q.
+              ⊎-elim (λ (m : inf ≤ candidate u). absurd (omega (arith, over u m))) (λ (m : candidate u < inf). h .largest u hu k (omega (arith, more u m)) l)
+              (le-or-lt inf (candidate u));
+        }
+
+    pub least-none : Least inf candidate r s b c → b ≡ inf → Least inf candidate′ r s b c
+    least-none h e =
+        record {
+          capped = h .capped;
+          nothing = h .nothing;
+          within = h .within;
+          tried = h .tried;
+          reached = λ q. absurd (omega arith);
+          least = λ u hu k. omega (arith, over u (omega (arith, h .least u hu k)));
+          largest = λ u hu k i q. absurd (omega arith);
+        }
 
   -- the least over the subsets of r is that over the subsets of a larger set, where the others have no candidate below inf
   pub least-widen : (r′ : ℕ) → Least inf candidate r s b c → Sub r r′ → ((u : ℕ) → Sub u r′ → candidate u < inf → Sub u r) → Least inf candidate r′ s b c

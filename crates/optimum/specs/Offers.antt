@@ -36,3 +36,15 @@ module _ (inf : ℕ) where
   pub offer-le : (may : Bool) (v x y : ℕ) → T may → v ≤ y → offer inf may v x ≤ y + x
   offer-le may v x y h l =
       ⊎-elim (λ (m : inf ≤ v). omega (arith, offer-no may v x (λ a. m))) (λ (m : v < inf). omega (arith, offer-yes may v x h m)) (le-or-lt inf v)
+
+  -- with y more: an offer below inf is y more, and one that is not stays so
+  pub offer-raise : (may : Bool) (v x y : ℕ) → offer inf may v x < inf → offer inf may v (x + y) ≡ offer inf may v x + y
+  offer-raise may v x y l =
+      let (a, m) = offer-lt may v x l in
+      omega (arith, offer-yes may v x a m, offer-yes may v (x + y) a m)
+
+  pub offer-over : (may : Bool) (v x y : ℕ) → inf ≤ offer inf may v x → inf ≤ offer inf may v (x + y)
+  offer-over true v x y h =
+      ⊎-elim (λ (m : inf ≤ v). omega (arith, offer-no true v (x + y) (λ a. m)))
+      (λ (m : v < inf). omega (arith, offer-yes true v x tt m, offer-yes true v (x + y) tt m)) (le-or-lt inf v)
+  offer-over false v x y h = omega arith

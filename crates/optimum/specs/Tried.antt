@@ -1,9 +1,11 @@
 -- A loop over the subsets of m, from m down by `s = (s - 1) & m`, that finds the table's cell of r: what the code does at a turn, and what
 -- it has at the end. m may be r itself, or a part of r outside which no set passes the test. `tail` reads the values of the next stage.
 -- Assumes nothing.
-use mathlib.Core.Path.{_≡_, sym, _∙_, subst, subst₂}
+use mathlib.Core.Path.{_≡_, sym, ap, _∙_, subst, subst₂}
+use mathlib.Core.Bool.{true}
 use mathlib.Core.Logic.{⊎-elim}
 use Prim.Native.Nat.{ℕ, suc, _+_, _-_, _≤_, _<_}
+use native.Mathlib.Nat.{le-antisymm}
 use native.Mathlib.Omega.{arith}
 use lib.Bits.{bitAnd}
 use lib.Dec.{T}
@@ -11,8 +13,8 @@ use Rattle.fold.specs.Test.{test}
 use Rattle.fold.specs.Counting.{le-or-lt}
 use Rattle.sets.specs.Subset.{Sub, walk}
 use Rattle.sets.specs.Rest.{meet-left, sub-meet}
-use Rattle.optimum.specs.Least.{Least, least-start, least-take, least-keep, least-next, least-widen}
-use Rattle.optimum.specs.Offers.{offer-yes, offer-no, offer-lt}
+use Rattle.optimum.specs.Least.{Least, least-start, least-take, least-keep, least-next, least-raise, least-none, least-widen}
+use Rattle.optimum.specs.Offers.{offer, offer-yes, offer-no, offer-lt, offer-raise, offer-over}
 use Rattle.optimum.specs.Schedules.{Test, Contribution}
 use Rattle.optimum.specs.Stages.{candidate, cell, cell-found}
 
@@ -47,6 +49,31 @@ module _ {ok : Test} {w : Contribution} {inf : ℕ} {tail : ℕ → ℕ} {t r m 
   -- the same pair under other names, as where branches meet
   pub tried-is : {b′ c′ : ℕ} → Tried ok w inf tail t r m s b c → b′ ≡ b → c′ ≡ c → Tried ok w inf tail t r m s b′ c′
   tried-is h e f = subst₂ (λ x y. Tried ok w inf tail t r m s x y) (sym e) (sym f) h
+
+  -- every set contributes x more than by w: so does what was found, and none stays none
+  pub tried-raise : {w′ : Contribution} (x : ℕ) → Tried ok w inf tail t r m s b c → ((u : ℕ) → w′ t r u ≡ w t r u + x) → (b < inf → b + x < inf)
+      → Tried ok w′ inf tail t r m s (offer inf true b x) c
+  tried-raise {w′} x h e fits =
+      record {
+        by =
+            ⊎-elim
+            (λ (l : inf ≤ b).
+            subst (λ v. Least inf (candidate ok w′ inf tail t r) m s v c) (le-antisymm (h .by .capped) l ∙ sym (offer-no inf true b x (λ a. l)))
+            (least-none (candidate ok w′ inf tail t r) x more over (h .by) (le-antisymm (h .by .capped) l)))
+            (λ (l : b < inf).
+            subst (λ v. Least inf (candidate ok w′ inf tail t r) m s v c) (sym (offer-yes inf true b x tt l))
+            (least-raise (candidate ok w′ inf tail t r) x more over (h .by) l (fits l)))
+            (le-or-lt inf b);
+      }
+    where
+      same : (u : ℕ) → candidate ok w′ inf tail t r u ≡ offer inf (ok t r u) (tail (r - u)) (w t r u + x)
+      same u = ap (offer inf (ok t r u) (tail (r - u))) (e u)
+
+      more : (u : ℕ) → candidate ok w inf tail t r u < inf → candidate ok w′ inf tail t r u ≡ candidate ok w inf tail t r u + x
+      more u l = same u ∙ offer-raise inf (ok t r u) (tail (r - u)) (w t r u) x l
+
+      over : (u : ℕ) → inf ≤ candidate ok w inf tail t r u → inf ≤ candidate ok w′ inf tail t r u
+      over u l = omega (arith, same u, offer-over inf (ok t r u) (tail (r - u)) (w t r u) x l)
 
   -- on to the next subset
   pub tried-next : Tried ok w inf tail t r m s b c → Sub s m → 0 < s → Tried ok w inf tail t r m (suc (walk s m)) b c

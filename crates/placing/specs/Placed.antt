@@ -11,11 +11,13 @@ use lib.ListN.{getD, take, drop}
 use Rattle.model.specs.Model.{Yard, NoRow}
 use Rattle.model.specs.BestOf.{bestOf, best-is}
 use Rattle.day.specs.Sound.{dayLimits, sound}
+use Rattle.day.specs.SoundLaws.{sound-is}
 use Rattle.day.specs.Most.{cost-most}
 use Rattle.optimum.specs.Layers.{Solved}
 use Rattle.optimum.specs.Chosen.{rowIn, Leads}
 use Rattle.staging.specs.Tables.{servable, stageKey, noCost}
 use Rattle.staging.specs.Reachable.{Reachable}
+use Rattle.staging.specs.KeyBySlot.{Few}
 use Rattle.staging.specs.Solution.{solution-leads, solution-best, solution-none}
 
 -- where a row is allowed: the best one is in the first n bytes of the row, which is otherwise unchanged; of the areas only the words of the sets are used
@@ -49,11 +51,14 @@ module _ {y : Yard} {size : ℕ} {cost₀ choice₀ row₀ cost choice row : Lis
 
 module _ (y : Yard) {N : ℕ} {a₀ c₀ a c : List ℕ} (s : T (sound dayLimits y)) (size : N ≡ 2 ^ y .trains)
     (solved : Solved (servable y) (stageKey y) noCost (Reachable N (y .tracks)) N (y .slots) 0 a₀ c₀ a c) where
+  few : Few y
+  few = let h = sound-is dayLimits y s in record { trains = h .trains .1; slots = h .slots .1 }
+
   pub leads : getD a (N - 1) 0 < noCost → Leads c (y .trains) (y .slots) N (rowIn c (y .trains) (y .slots) N)
-  leads = solution-leads y size solved
+  leads = solution-leads y few size solved
 
   pub best-found : getD a (N - 1) 0 < noCost → bestOf y ≡ some (rowIn c (y .trains) (y .slots) N)
-  best-found found = best-is y (rowIn c (y .trains) (y .slots) N) (solution-best y size solved found)
+  best-found found = best-is y (rowIn c (y .trains) (y .slots) N) (solution-best y few size solved found)
 
   pub none-found : noCost ≤ getD a (N - 1) 0 → NoRow y
-  none-found = solution-none y size solved (λ row. omega (arith, cost-most y row s))
+  none-found = solution-none y few size solved (λ row. omega (arith, cost-most y row s)) (omega arith)

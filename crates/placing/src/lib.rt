@@ -13,7 +13,7 @@ ghost use Rattle.staging.specs.Reachable.{Reachable};
 ghost use Rattle.placing.specs.Placed.{Places};
 use day::Day;
 
-// Solves a sound day: the least cost of serving all trains, and the choices that lead to it. The tables are local, so that the inner loop
+// Solves a sound day: the least key of serving all trains, and the choices that lead to it. The tables are local, so that the inner loop
 // reads nothing else.
 fn solve_day(day: Day, cost: &mut [u64], choice: &mut [u16], size: usize)
     requires { ⌜ T (sound dayLimits (yard day)) × ((size ≡ 2 ^ day .trains) × ((size ≤ length (now cost)) × (day .slots * size ≤ length (now choice)))) ⌝ }
@@ -28,9 +28,11 @@ fn solve_day(day: Day, cost: &mut [u64], choice: &mut [u16], size: usize)
     let mut need = [0u16; 4096];
     let mut late = [0u32; 4096];
     let mut price = [0u32; 4096];
+    let mut count = [0u8; 4096];
     let mut opens = [0usize; 8];
     tables::fill_needing(&mut need, &boxes, 12, n);
-    tables::fill_late(&mut late, day.revisit, n);
+    tables::fill_count(&mut count, n);
+    tables::fill_late(&mut late, &count, day.revisit, size);
     prices::fill_price(&mut price, &boxes, 12, n, size, day.tracks, day.split);
     barring::bar_groups(&mut price, &groups, n, size);
     tables::fill_open(&mut opens, &first, &last, n, slots);
@@ -40,6 +42,7 @@ fn solve_day(day: Day, cost: &mut [u64], choice: &mut [u16], size: usize)
         &need,
         &late,
         &price,
+        &count,
         &opens,
         day.tracks,
         slots,

@@ -2,8 +2,11 @@
 -- its contract says, on a sound day and lent the memory that 01 names: at least 2^n words, T × 2^n words and n bytes. Then
 --   plan-or-refused  a plan, 9 or 16 is returned, never 10;
 --   plan-exactly     a plan is returned exactly when an allowed row exists;
---   plan-best        it is the best row: allowed, no allowed row is cheaper, none of equal cost comes before it (01's order); its three
---                    numbers are the model's; and the bytes beyond it are those lent;
+--   plan-best        it is the best row: allowed, no allowed row is cheaper, none of equal cost comes before it; its three numbers are the
+--                    model's; and the bytes beyond it are those lent;
+--   plan-foremost    the order among rows of equal cost is order 5's of document 02: none of them has fewer revisits, of those with as many
+--                    none a smaller sum of slot numbers, and of those with as small a one none the larger set number at the lowest
+--                    slot where they differ;
 --   plan-refused     otherwise the answer is 9, with the overbooked interval that 01 names and the number of trains bound inside, or 16;
 --   nine-exactly     9 is returned exactly when an interval is overbooked;
 --   sixteen-exactly  16 is returned exactly when none is and still no row is allowed;
@@ -29,6 +32,7 @@ use Rattle.model.specs.Model.{Yard, Outcome, outcome, boundInside, Best, SomeRo
 use Rattle.model.specs.Rows.{allowed-is}
 use Rattle.model.specs.Groups.{NoGroups}
 use Rattle.model.specs.BestOf.{bestOf, none-is, is-best, is-none}
+use Rattle.model.specs.Foremost.{Foremost, best-foremost}
 use Rattle.model.specs.Overbooked.{Interval, firstOverbooked, SaysFirst, first-says}
 use Rattle.day.specs.Answer.{Answer, gives, refuses, code}
 use Rattle.day.specs.AnswerLaws.{gives-same}
@@ -141,6 +145,9 @@ module _ (l : Limits) (y : Yard) (costs choices : ℕ) (row : List ℕ)
       go : (b : Option (List ℕ)) → bestOf y ≡ b → Given o
       go none e = absurd (none-gives y o (sym (says ∙ ap (bestAnswer y) e) ∙ g))
       go (some r) e = from-best r o e g
+
+  pub plan-foremost : (o : Outcome) → said ≡ gives o → Foremost y (take (y .trains) after)
+  plan-foremost o g = best-foremost y (take (y .trains) after) (plan-best o g .best)
 
   pub plan-exactly : ((o : Outcome) × (said ≡ gives o)) ↔ SomeRow y
   plan-exactly = (λ g. (take (y .trains) after, plan-best (g .0) (g .1) .best .isAllowed), λ r. go r (bestOf y) refl)

@@ -46,8 +46,8 @@ module _ {size slots : ℕ} {x : Tables} (g : Given size slots x) where
             let w = keyFromTables x in
             let i : ℕ = r - s in
             let e : at a i ≡ tab ok w noCost (slots - suc j) (suc (suc j)) i = h .holds i (omega arith) (leaves-reachable s room (omega arith) here hs may) in
-            let b : tab ok w noCost (slots - suc j) (suc (suc j)) i ≤ (slots - suc j) * 2 ^ 32 =
-            tab-small ok w noCost (suc (suc slots)) i (2 ^ 32) (λ t r s d b hs m. omega (arith, served-fits g t r s (omega arith) hs m)) (slots - suc j) (suc (suc j)) i
+            let b : tab ok w noCost (slots - suc j) (suc (suc j)) i ≤ (slots - suc j) * 2 ^ 43 =
+            tab-small ok w noCost (suc (suc slots)) i (2 ^ 43) (λ t r s d b hs m. omega (arith, served-fits g t r s (omega arith) hs m)) (slots - suc j) (suc (suc j)) i
             (omega arith) (omega arith) (omega arith) in
             let eight : slots ≤ 8 = g .stages .1 in
             omega arith;

@@ -18,18 +18,19 @@ pub fn fill_last(
     need: &[u16],
     late: &[u32],
     price: &[u32],
+    count: &[u8],
     opens: &[usize],
     slots: usize,
     size: usize,
 )
-    requires { ⌜ Given size slots (tablesOf (now need) (now late) (now price) (now opens)) × (size ≤ length (now cost)) × (slots * size ≤ length (now choice)) ⌝ }
-    ensures { λ _. ⌜ SolvedFrom (tablesOf (now (need .entry)) (now (late .entry)) (now (price .entry)) (now (opens .entry))) Every size slots (slots - 1) (now (cost .entry)) (now (choice .entry)) (now (cost .exit)) (now (choice .exit)) ⌝ }
+    requires { ⌜ Given size slots (tablesOf (now need) (now late) (now price) (now count) (now opens)) × (size ≤ length (now cost)) × (slots * size ≤ length (now choice)) ⌝ }
+    ensures { λ _. ⌜ SolvedFrom (tablesOf (now (need .entry)) (now (late .entry)) (now (price .entry)) (now (count .entry)) (now (opens .entry))) Every size slots (slots - 1) (now (cost .entry)) (now (choice .entry)) (now (cost .exit)) (now (choice .exit)) ⌝ }
 {
     let j = slots - 1;
     let mut r = size;
     while 0 < r {
         r -= 1;
-        let p = cells::whole(need, late, price, opens, j, r);
+        let p = cells::whole(need, late, price, count, opens, j, r);
         cost[r] = p.value;
         choice[j * size + r] = p.set;
     }
@@ -45,6 +46,7 @@ pub fn fill_slot(
     need: &[u16],
     late: &[u32],
     price: &[u32],
+    count: &[u8],
     opens: &[usize],
     tracks: u32,
     later: usize,
@@ -52,8 +54,8 @@ pub fn fill_slot(
     slots: usize,
     size: usize,
 )
-    requires { ⌜ Given size slots (tablesOf (now need) (now late) (now price) (now opens)) × Room size tracks (now price) × Later slots j later (now opens) × (0 < j) × (j < slots) × (size ≤ length (now cost)) × (slots * size ≤ length (now choice)) × SolvedFrom (tablesOf (now need) (now late) (now price) (now opens)) (Reachable size tracks) size slots (j + 1) (now cost) (now choice) (now cost) (now choice) ⌝ }
-    ensures { λ _. ⌜ SolvedFrom (tablesOf (now (need .entry)) (now (late .entry)) (now (price .entry)) (now (opens .entry))) (Reachable size tracks) size slots j (now (cost .entry)) (now (choice .entry)) (now (cost .exit)) (now (choice .exit)) ⌝ }
+    requires { ⌜ Given size slots (tablesOf (now need) (now late) (now price) (now count) (now opens)) × Room size tracks (now price) × Later slots j later (now opens) × (0 < j) × (j < slots) × (size ≤ length (now cost)) × (slots * size ≤ length (now choice)) × SolvedFrom (tablesOf (now need) (now late) (now price) (now count) (now opens)) (Reachable size tracks) size slots (j + 1) (now cost) (now choice) (now cost) (now choice) ⌝ }
+    ensures { λ _. ⌜ SolvedFrom (tablesOf (now (need .entry)) (now (late .entry)) (now (price .entry)) (now (count .entry)) (now (opens .entry))) (Reachable size tracks) size slots j (now (cost .entry)) (now (choice .entry)) (now (cost .exit)) (now (choice .exit)) ⌝ }
 {
     let room = tracks * ((slots - j) as u32);
     let gone = tracks * (j as u32);
@@ -69,7 +71,7 @@ pub fn fill_slot(
                     set: 0,
                 }
             } else {
-                cells::cheapest(cost, need, late, price, opens, j, r)
+                cells::cheapest(cost, need, late, price, count, opens, j, r)
             };
             cost[r] = p.value;
             choice[j * size + r] = p.set;
@@ -85,16 +87,17 @@ pub fn fill_first(
     need: &[u16],
     late: &[u32],
     price: &[u32],
+    count: &[u8],
     opens: &[usize],
     tracks: u32,
     slots: usize,
     size: usize,
 )
-    requires { ⌜ Given size slots (tablesOf (now need) (now late) (now price) (now opens)) × Room size tracks (now price) × (size ≤ length (now cost)) × (slots * size ≤ length (now choice)) × SolvedFrom (tablesOf (now need) (now late) (now price) (now opens)) (Reachable size tracks) size slots 1 (now cost) (now choice) (now cost) (now choice) ⌝ }
-    ensures { λ _. ⌜ SolvedFrom (tablesOf (now (need .entry)) (now (late .entry)) (now (price .entry)) (now (opens .entry))) (Reachable size tracks) size slots 0 (now (cost .entry)) (now (choice .entry)) (now (cost .exit)) (now (choice .exit)) ⌝ }
+    requires { ⌜ Given size slots (tablesOf (now need) (now late) (now price) (now count) (now opens)) × Room size tracks (now price) × (size ≤ length (now cost)) × (slots * size ≤ length (now choice)) × SolvedFrom (tablesOf (now need) (now late) (now price) (now count) (now opens)) (Reachable size tracks) size slots 1 (now cost) (now choice) (now cost) (now choice) ⌝ }
+    ensures { λ _. ⌜ SolvedFrom (tablesOf (now (need .entry)) (now (late .entry)) (now (price .entry)) (now (count .entry)) (now (opens .entry))) (Reachable size tracks) size slots 0 (now (cost .entry)) (now (choice .entry)) (now (cost .exit)) (now (choice .exit)) ⌝ }
 {
     let r = size - 1;
-    let p = cells::cheapest(cost, need, late, price, opens, 0, r);
+    let p = cells::cheapest(cost, need, late, price, count, opens, 0, r);
     cost[r] = p.value;
     choice[r] = p.set;
 }

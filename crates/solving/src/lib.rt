@@ -18,15 +18,16 @@ pub fn solve(
     need: &[u16],
     late: &[u32],
     price: &[u32],
+    count: &[u8],
     opens: &[usize],
     tracks: u32,
     slots: usize,
     size: usize,
 )
-    requires { ⌜ Given size slots (tablesOf (now need) (now late) (now price) (now opens)) × Room size tracks (now price) × (size ≤ length (now cost)) × (slots * size ≤ length (now choice)) ⌝ }
-    ensures { λ _. ⌜ SolvedFrom (tablesOf (now (need .entry)) (now (late .entry)) (now (price .entry)) (now (opens .entry))) (Reachable size tracks) size slots 0 (now (cost .entry)) (now (choice .entry)) (now (cost .exit)) (now (choice .exit)) ⌝ }
+    requires { ⌜ Given size slots (tablesOf (now need) (now late) (now price) (now count) (now opens)) × Room size tracks (now price) × (size ≤ length (now cost)) × (slots * size ≤ length (now choice)) ⌝ }
+    ensures { λ _. ⌜ SolvedFrom (tablesOf (now (need .entry)) (now (late .entry)) (now (price .entry)) (now (count .entry)) (now (opens .entry))) (Reachable size tracks) size slots 0 (now (cost .entry)) (now (choice .entry)) (now (cost .exit)) (now (choice .exit)) ⌝ }
 {
-    slot_filling::fill_last(cost, choice, need, late, price, opens, slots, size);
+    slot_filling::fill_last(cost, choice, need, late, price, count, opens, slots, size);
     let mut j = slots - 1;
     let mut later = opens[j];
     while 1 < j {
@@ -38,6 +39,7 @@ pub fn solve(
             need,
             late,
             price,
+            count,
             opens,
             tracks,
             later,
@@ -47,6 +49,17 @@ pub fn solve(
         );
     }
     if 0 < j {
-        slot_filling::fill_first(cost, choice, need, late, price, opens, tracks, slots, size);
+        slot_filling::fill_first(
+            cost,
+            choice,
+            need,
+            late,
+            price,
+            count,
+            opens,
+            tracks,
+            slots,
+            size,
+        );
     }
 }

@@ -17,7 +17,7 @@ use Rattle.model.specs.Model.{Yard, received, cost}
 use Rattle.optimum.specs.Layers.{Solved}
 use Rattle.optimum.specs.Agree.{solved-agree}
 use Rattle.staging.specs.Serving.{servable-is}
-use Rattle.staging.specs.Tables.{needing, fromOutside, openIn, together, servable, slotCost, stageKey, Tables, barred, fromTables, costFromTables, keyFromTables}
+use Rattle.staging.specs.Tables.{needing, fromOutside, openIn, together, servable, lateTrains, slotCost, stageKey, Tables, barred, fromTables, costFromTables, keyFromTables}
 use Rattle.staging.specs.SlotInRow.{rowAround, slot-in-row, split-in-row}
 
 -- a set that may be served in some slot, as far as tracks and groups go
@@ -28,6 +28,7 @@ admitted y s = leb (ones s) (y .tracks) && together (y .trains) (y .groups) s
 pub record DayTables (y : Yard) (x : Tables) : Type 0 where
   pub needs : (m : ℕ) → m < 2 ^ y .trains → getD (x .need) m 0 ≡ needing (y .trains) (received y) m
   pub lates : (m : ℕ) → m < 2 ^ y .trains → getD (x .late) m 0 ≡ y .revisit * ones m
+  pub counts : (m : ℕ) → m < 2 ^ y .trains → getD (x .count) m 0 ≡ ones m
   pub prices : (s : ℕ) → s < 2 ^ y .trains
       → getD (x .price) s 0 ≡ cond (admitted y s) (y .split * fromOutside (y .trains) (received y) s) barred
   pub windows : (j : ℕ) → j < y .slots → getD (x .opens) j 0 ≡ openIn (y .trains) (y .first) (y .last) (suc j)
@@ -73,13 +74,20 @@ module _ {y : Yard} {x : Tables} (h : DayTables y x) where
       (ap (λ v. getD (x .late) (bitAnd s v) 0) (h .needs (r - s) (omega arith)) ∙ h .lates (bitAnd s later) (omega (arith, and-le-l s later)))
       (priced s within fits)
 
+  -- the trains of s that revisit, counted
+  revisits-read : (r s : ℕ) → r < 2 ^ y .trains → Sub s r → getD (x .count) (bitAnd s (getD (x .need) (r - s) 0)) 0 ≡ lateTrains y r s
+  revisits-read r s l hs =
+      let later = needing (y .trains) (received y) (r - s) in
+      ap (λ v. getD (x .count) (bitAnd s v) 0) (h .needs (r - s) (omega arith))
+      ∙ h .counts (bitAnd s later) (omega (arith, and-le-l s later, sub-le s r hs))
+
   pub key-agrees : (t r s : ℕ) → 1 ≤ t → t ≤ y .slots → r < 2 ^ y .trains → Sub s r → T (servable y t r s)
       → keyFromTables x t r s ≡ stageKey y t r s
   unfolding keyFromTables
   key-agrees t r s a b l hs may =
       let serves = servable-is y t r s may in
-      cost-reads t r s l hs
-      (is-true (admitted y s) (both (leb (ones s) (y .tracks)) (together (y .trains) (y .groups) s) (le→leb (ones s) (y .tracks) (serves .room)) (serves .whole)))
+      let fits = is-true (admitted y s) (both (leb (ones s) (y .tracks)) (together (y .trains) (y .groups) s) (le→leb (ones s) (y .tracks) (serves .room)) (serves .whole)) in
+      omega (arith, cost-reads t r s l hs fits, revisits-read r s l hs, h .counts r l)
 
   -- a set that is not barred costs less than `barred`, as a slot costs no more than a row
   pub unbarred-cheap : (t r s : ℕ) → r < 2 ^ y .trains → Sub s r → getD (x .price) s 0 < barred → costFromTables x t r s < barred

@@ -3,6 +3,7 @@ pub mod Serving
 pub mod Reachable
 pub mod AllowedRows
 pub mod CostBySlot
+pub mod KeyBySlot
 pub mod BestPlan
 pub mod SlotInRow
 pub mod FromTables

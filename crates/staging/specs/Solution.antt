@@ -1,5 +1,5 @@
 -- Behind the loops over stages and sets, solved for what can remain of the day's trains: where a value below `inf` stands for all trains, it
--- is that of the best plan, to which the choices lead (`solution-best`); where none does, no row that costs less than `inf` is allowed
+-- is that of the best plan, to which the choices lead (`solution-best`); where none does, no row of 32 bits' cost is allowed
 -- (`solution-none`).
 -- Assumes nothing.
 use mathlib.Core.Path.{_≡_, ap, subst}
@@ -15,9 +15,10 @@ use Rattle.optimum.specs.Chosen.{rowIn, Leads, solved-value, solved-leads, solv
 use Rattle.staging.specs.Tables.{servable, stageKey}
 use Rattle.staging.specs.Reachable.{Reachable, reachable-all, reachable-closed}
 use Rattle.staging.specs.AllowedRows.{allowed-row}
-use Rattle.staging.specs.BestPlan.{row-cost, best-plan}
+use Rattle.staging.specs.KeyBySlot.{Few, key-low}
+use Rattle.staging.specs.BestPlan.{day-key, best-plan}
 
-module _ (y : Yard) {a₀ c₀ a c : List ℕ} {inf N : ℕ} (size : N ≡ 2 ^ y .trains)
+module _ (y : Yard) (few : Few y) {a₀ c₀ a c : List ℕ} {inf N : ℕ} (size : N ≡ 2 ^ y .trains)
     (solved : Solved (servable y) (stageKey y) inf (Reachable N (y .tracks)) N (y .slots) 0 a₀ c₀ a c) where
   closed : Closed (servable y) (Reachable N (y .tracks))
   closed = reachable-closed y N
@@ -36,9 +37,9 @@ module _ (y : Yard) {a₀ c₀ a c : List ℕ} {inf N : ℕ} (size : N ≡ 2 ^ y
     solution-leads = solved-leads (y .trains) size closed top solved some
 
     pub solution-best : Best y (rowIn c (y .trains) (y .slots) N)
-    solution-best = best-plan y (rowIn c (y .trains) (y .slots) N) (solved-best (y .trains) size closed top solved some)
+    solution-best = best-plan y few (rowIn c (y .trains) (y .slots) N) (solved-best (y .trains) size closed top solved some)
 
-  pub solution-none : ((row : List ℕ) → cost y row < inf) → inf ≤ getD a (N - 1) 0 → NoRow y
-  solution-none cheap missing row h =
+  pub solution-none : ((row : List ℕ) → cost y row < 2 ^ 32) → 2 ^ 43 ≤ inf → inf ≤ getD a (N - 1) 0 → NoRow y
+  solution-none cheap high missing row h =
       let o = allowed-row y row h in
-      omega (arith, value, optimum-lower (servable y) (stageKey y) inf (y .trains) (y .slots) row o, row-cost y o, cheap row)
+      omega (arith, value, optimum-lower (servable y) (stageKey y) inf (y .trains) (y .slots) row o, day-key y o, key-low y few row (o .staged) (cheap row))

@@ -13,6 +13,7 @@ use Rattle.sets.specs.Mask.{has, mask}
 use Rattle.sets.specs.Subset.{subset}
 use Rattle.model.specs.Model.{Yard, received, supplies, inTime, grouped}
 use Rattle.optimum.specs.Schedules.{Test, Contribution}
+use Rattle.optimum.specs.Keys.{pack}
 
 -- ---- of n trains that receive a i j boxes from each other
 
@@ -46,22 +47,36 @@ lateTrains y r s = ones (bitAnd s (needing (y .trains) (received y) (r - s)))
 abbrev pub slotCost : Yard → Contribution
 slotCost y t r s = y .revisit * lateTrains y r s + y .split * fromOutside (y .trains) (received y) s
 
--- what the value of a plan is made of, slot by slot: planning makes the sum least
+-- the trains that remain before the slot: summed over the slots, the sum of slot numbers over all trains
+abbrev pub waiting : Contribution
+waiting t r s = ones r
+
+-- what a plan of 12 trains and 8 slots stays below: 12 revisits, and slot numbers that sum to 96
+abbrev pub revisitsBelow : ℕ
+revisitsBelow = 16
+
+abbrev pub sumsBelow : ℕ
+sumsBelow = 128
+
+-- the key of a plan, slot by slot: planning makes the sum least. The cost stands above the revisits, and these above the sum of slot
+-- numbers (order 5 of 02)
 abbrev pub stageKey : Yard → Contribution
-stageKey y = slotCost y
+stageKey y = pack sumsBelow (pack revisitsBelow (slotCost y) (λ t. lateTrains y)) waiting
 
 -- ---- the same from tables
 
 pub record Tables : Type 0 where
-  -- of each set: the trains with a supplier in it; what its revisits cost; what its split moves cost, or `barred` where it may not be served
+  -- of each set: the trains with a supplier in it; what its revisits cost; what its split moves cost, or `barred` where it may not be served;
+  -- how many trains it has
   pub need : List ℕ
   pub late : List ℕ
   pub price : List ℕ
+  pub count : List ℕ
   -- of each slot: the trains that may be served in it
   pub opens : List ℕ
 
-abbrev pub tablesOf : List ℕ → List ℕ → List ℕ → List ℕ → Tables
-tablesOf need late price opens = record { need = need; late = late; price = price; opens = opens }
+abbrev pub tablesOf : List ℕ → List ℕ → List ℕ → List ℕ → List ℕ → Tables
+tablesOf need late price count opens = record { need = need; late = late; price = price; count = count; opens = opens }
 
 abbrev pub barred : ℕ
 barred = 4294967295
@@ -76,5 +91,17 @@ fromTables x t r s = ltb (getD (x .price) s 0) barred && subset s (getD (x .open
 abbrev pub costFromTables : Tables → Contribution
 costFromTables x t r s = getD (x .late) (bitAnd s (getD (x .need) (r - s) 0)) 0 + getD (x .price) s 0
 
+-- a unit of cost and a revisit, in a key
+abbrev pub costUnit : ℕ
+costUnit = 2048
+
+abbrev pub revisitUnit : ℕ
+revisitUnit = 128
+
+-- what the set s adds to the key: its cost and its revisits
+abbrev pub setKeyFromTables : Tables → Contribution
+setKeyFromTables x t r s = costFromTables x t r s * costUnit + getD (x .count) (bitAnd s (getD (x .need) (r - s) 0)) 0 * revisitUnit
+
+-- and with it the trains that wait, which every set of the cell adds alike
 unfoldable pub keyFromTables : Tables → Contribution
-keyFromTables x = costFromTables x
+keyFromTables x t r s = setKeyFromTables x t r s + getD (x .count) r 0

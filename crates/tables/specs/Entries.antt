@@ -1,9 +1,8 @@
 -- The entries of the tables, and the parts that they are made of: of n trains that receive a i j boxes from each other.
 -- Assumes nothing.
 use mathlib.Core.List.{List}
-use Prim.Native.Nat.{ℕ, _+_, _*_}
+use Prim.Native.Nat.{ℕ, _+_}
 use lib.Bits.{bitOr}
-use lib.Count.{ones}
 use Rattle.sets.specs.Mask.{mask}
 use Rattle.model.specs.Model.{supplies}
 use Rattle.optimum.specs.Workspace.{at}
@@ -18,12 +17,8 @@ receivers n a k = mask n λ i. supplies a i k
 abbrev pub withSupplier : List ℕ → ℕ → ℕ → ℕ
 withSupplier b more m = bitOr (at b m) more
 
--- ---- costs
-
--- what the revisits of the trains of m cost
-abbrev pub lateCost : ℕ → ℕ → ℕ
-lateCost revisit m = revisit * ones m
+-- ---- how many trains a set has
 
 -- of the set m with one train more: b has the entry of m
-abbrev pub withRevisit : List ℕ → ℕ → ℕ → ℕ
-withRevisit b revisit m = at b m + revisit
+abbrev pub withTrain : List ℕ → ℕ → ℕ
+withTrain b m = at b m + 1

@@ -2,4 +2,4 @@ pub mod Given
 pub mod Entries
 pub mod Filled
 pub mod Needing
-pub mod Costs
+pub mod Counts

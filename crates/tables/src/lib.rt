@@ -4,13 +4,14 @@
 // Proved: each call fills the first words of the lent slice with the entries of specs/Entries.antt and of `staging`, and leaves the
 // words behind them as they were. The tables have an entry for each set, so n is at most 12. Assumes nothing.
 ghost use mathlib.Core.Path.{_≡_};
-ghost use Prim.Native.Nat.{ℕ, suc, _+_, _^_, _≤_, _<_};
+ghost use Prim.Native.Nat.{ℕ, suc, _+_, _*_, _^_, _≤_, _<_};
+ghost use lib.Count.{ones};
 ghost use lib.ListN.{length};
 ghost use Rattle.model.specs.Model.{cell};
 ghost use Rattle.optimum.specs.Workspace.{at};
 ghost use Rattle.staging.specs.Tables.{needing, openIn};
 ghost use Rattle.tables.specs.Given.{Given};
-ghost use Rattle.tables.specs.Entries.{receivers, withSupplier, lateCost, withRevisit};
+ghost use Rattle.tables.specs.Entries.{receivers, withSupplier, withTrain};
 ghost use Rattle.tables.specs.Filled.{Filled, Added};
 
 // ---- the trains with a supplier in each set
@@ -52,27 +53,37 @@ pub fn fill_needing(need: &mut [u16], boxes: &[u8], width: usize, n: usize)
     }
 }
 
-// ---- what the revisits of each set cost
+// ---- how many trains each set has, and what its revisits cost
 
 // To the entries of the sets below `size` adds those of the same sets with one train more.
-fn add_revisit(late: &mut [u32], size: usize, revisit: u32)
-    requires { ⌜ (size ≤ 4096) × (size + size ≤ length (now late)) × ((m : ℕ) → m < size → at (now late) m + revisit < 2 ^ 32) ⌝ }
-    ensures { λ _. ⌜ Added (withRevisit (now (late .entry)) revisit) size size (now (late .entry)) (now (late .exit)) ⌝ }
+fn add_train(count: &mut [u8], size: usize)
+    requires { ⌜ (size ≤ 4096) × (size + size ≤ length (now count)) × ((m : ℕ) → m < size → at (now count) m + 1 < 2 ^ 8) ⌝ }
+    ensures { λ _. ⌜ Added (withTrain (now (count .entry))) size size (now (count .entry)) (now (count .exit)) ⌝ }
 {
     for m in 0..size {
-        late[size + m] = late[m] + revisit;
+        count[size + m] = count[m] + 1;
     }
 }
 
-pub fn fill_late(late: &mut [u32], revisit: u32, n: usize)
-    requires { ⌜ (revisit ≤ 65535) × (n ≤ 12) × (2 ^ n ≤ length (now late)) ⌝ }
-    ensures { λ _. ⌜ Filled (lateCost revisit) (2 ^ n) (now (late .entry)) (now (late .exit)) ⌝ }
+pub fn fill_count(count: &mut [u8], n: usize)
+    requires { ⌜ (n ≤ 12) × (2 ^ n ≤ length (now count)) ⌝ }
+    ensures { λ _. ⌜ Filled ones (2 ^ n) (now (count .entry)) (now (count .exit)) ⌝ }
 {
-    late[0] = 0;
+    count[0] = 0;
     let mut size = 1;
     for _ in 0..n {
-        add_revisit(late, size, revisit);
+        add_train(count, size);
         size += size;
+    }
+}
+
+// Each train of a set weighed by what a revisit costs.
+pub fn fill_late(late: &mut [u32], count: &[u8], revisit: u32, size: usize)
+    requires { ⌜ (revisit ≤ 65535) × (size ≤ 4096) × (size ≤ length (now late)) × (size ≤ length (now count)) ⌝ }
+    ensures { λ _. ⌜ Filled (λ m. revisit * at (now (count .entry)) m) size (now (late .entry)) (now (late .exit)) ⌝ }
+{
+    for m in 0..size {
+        late[m] = revisit * (count[m] as u32);
     }
 }
 

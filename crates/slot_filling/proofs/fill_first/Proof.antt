@@ -13,8 +13,12 @@ use Rattle.slot_filling.specs.Laws.{leaves-reachable, table-rests, choic
 use Rattle.slot_filling.proofs.fill_first.Statement.{statement}
 use Rattle.slot_filling.proofs.fill_first.Tie as tie
 
+-- the start, seen from the call
+abbrev start : tie.After-cheapest-arg → tie.Start
+start c = c .before .before .before .before .before .before .before .before
+
 abbrev given : tie.Start → Tables
-given s = let z = s .args in tablesOf (z .need .now) (z .late .now) (z .price .now) (z .opens .now)
+given s = let z = s .args in tablesOf (z .need .now) (z .late .now) (z .price .now) (z .count .now) (z .opens .now)
 
 module _ (s : tie.Start) where
   -- the second slot's table, which the cell reads
@@ -33,7 +37,7 @@ sub-r c = search needs
 
 cheapest-requires : tie.Need-cheapest-requires
 cheapest-requires c κs =
-    let s = c .before .before .before .before .before .before .before in
+    let s = start c in
     let r = last s in
     let g = s .pre .0 in (
       given-less _ _ g (omega arith, omega arith) (omega arith, g .stages .0),
@@ -51,7 +55,7 @@ mul-choice c = search needs
 
 slice-write-choice : tie.Need-slice-write-choice
 slice-write-choice c =
-    let s = c .before .before .before .before .before .before .before .before in
+    let s = start (c .before) in
     omega (arith, choice-place (s .pre .0) 0 (s .args .size - 1) (s .pre .0 .stages .0) (last s), s .pre .3)
 
 same-length : tie.Need-same-length
@@ -62,7 +66,7 @@ same-length-2 c = search needs
 
 returns : tie.Need-returns
 returns c =
-    let s = c .before .before .before .before .before .before .before .before in
+    let s = start (c .before) in
     let z = s .args in
     let r = z .size - 1 in
     let ok = fromTables (given s) in

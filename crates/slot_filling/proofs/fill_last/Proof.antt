@@ -13,17 +13,21 @@ use Rattle.slot_filling.proofs.fill_last.Statement.{statement}
 use Rattle.slot_filling.proofs.fill_last.Tie as tie
 
 abbrev Inv-loop : tie.InvT-loop
-Inv-loop cost₀ choice₀ need late price opens slots size j r₀ cost choice r =
-    Stage (fromTables (tablesOf need late price opens)) (keyFromTables (tablesOf need late price opens)) noCost Every size slots j r cost₀ choice₀ cost choice
+Inv-loop cost₀ choice₀ need late price count opens slots size j r₀ cost choice r =
+    Stage (fromTables (tablesOf need late price count opens)) (keyFromTables (tablesOf need late price count opens)) noCost Every size slots j r cost₀ choice₀ cost choice
 
 abbrev μ-loop : tie.MeasureT-loop
-μ-loop cost₀ choice₀ need late price opens slots size j r₀ cost choice r = r
+μ-loop cost₀ choice₀ need late price count opens slots size j r₀ cost choice r = r
+
+-- the start, seen from where all slices are known and from the loop
+abbrev start : tie.After-shared-slice-known5 Inv-loop μ-loop → tie.Start Inv-loop μ-loop
+start c = c .before .before .before .before .before .before .before
 
 abbrev from : tie.At-loop Inv-loop μ-loop → tie.Start Inv-loop μ-loop
-from c = c .before .before .before .before .before .before .before
+from c = start (c .before)
 
 abbrev given : tie.Start Inv-loop μ-loop → Tables
-given s = let z = s .args in tablesOf (z .need .now) (z .late .now) (z .price .now) (z .opens .now)
+given s = let z = s .args in tablesOf (z .need .now) (z .late .now) (z .price .now) (z .count .now) (z .opens .now)
 
 -- inside the loop: the workspaces are still as long, and the word that is written is one of theirs
 module _ (c : tie.In-loop Inv-loop μ-loop) where
@@ -44,10 +48,10 @@ module _ (c : tie.In-loop Inv-loop μ-loop) where
   place = choice-place (from (c .before) .pre .0) (from (c .before) .args .slots - 1) (c .before .loop .r - 1) slot set
 
 sub-j : tie.Need-sub-j Inv-loop μ-loop
-sub-j c = omega (arith, c .before .before .before .before .before .before .pre .0 .stages .0)
+sub-j c = omega (arith, start c .pre .0 .stages .0)
 
 loop-holds : tie.Need-loop-holds Inv-loop μ-loop
-loop-holds c = stage-last _ _ _ (omega (arith, c .before .before .before .before .before .before .pre .0 .stages .0))
+loop-holds c = stage-last _ _ _ (omega (arith, start c .pre .0 .stages .0))
 
 sub-r : tie.Need-sub-r Inv-loop μ-loop
 sub-r c = omega arith

@@ -18,18 +18,22 @@ use Rattle.slot_filling.proofs.fill_slot.Statement.{statement}
 use Rattle.slot_filling.proofs.fill_slot.Tie as tie
 
 abbrev Inv-loop : tie.InvT-loop
-Inv-loop cost₀ choice₀ need late price opens tracks later j slots size room gone all r₀ cost choice r =
-    Stage (fromTables (tablesOf need late price opens)) (keyFromTables (tablesOf need late price opens)) noCost (Reachable size tracks) size slots j r cost₀ choice₀ cost choice
-    × Table (fromTables (tablesOf need late price opens)) (keyFromTables (tablesOf need late price opens)) noCost (Reachable size tracks) r (slots - suc j) (suc j) cost
+Inv-loop cost₀ choice₀ need late price count opens tracks later j slots size room gone all r₀ cost choice r =
+    Stage (fromTables (tablesOf need late price count opens)) (keyFromTables (tablesOf need late price count opens)) noCost (Reachable size tracks) size slots j r cost₀ choice₀ cost choice
+    × Table (fromTables (tablesOf need late price count opens)) (keyFromTables (tablesOf need late price count opens)) noCost (Reachable size tracks) r (slots - suc j) (suc j) cost
 
 abbrev μ-loop : tie.MeasureT-loop
-μ-loop cost₀ choice₀ need late price opens tracks later j slots size room gone all r₀ cost choice r = r
+μ-loop cost₀ choice₀ need late price count opens tracks later j slots size room gone all r₀ cost choice r = r
+
+-- the start, seen from where all slices are known and from the loop
+abbrev start : tie.After-shared-slice-known5 Inv-loop μ-loop → tie.Start Inv-loop μ-loop
+start c = c .before .before .before .before .before .before .before
 
 abbrev from : tie.At-loop Inv-loop μ-loop → tie.Start Inv-loop μ-loop
-from c = c .before .before .before .before .before .before .before
+from c = start (c .before)
 
 abbrev given : tie.Start Inv-loop μ-loop → Tables
-given s = let z = s .args in tablesOf (z .need .now) (z .late .now) (z .price .now) (z .opens .now)
+given s = let z = s .args in tablesOf (z .need .now) (z .late .now) (z .price .now) (z .count .now) (z .opens .now)
 
 -- the tracks of the slots left, and of those before
 module _ (s : tie.Start Inv-loop μ-loop) where
@@ -90,26 +94,26 @@ found c =
     (c .if2 .came)
 
 sub-room : tie.Need-sub-room Inv-loop μ-loop
-sub-room c = omega (arith, c .before .before .before .before .before .before .pre .4)
+sub-room c = omega (arith, start c .pre .4)
 
 cast-room : tie.Need-cast-room Inv-loop μ-loop
-cast-room c = omega (arith, c .before .before .before .before .before .before .pre .0 .stages)
+cast-room c = omega (arith, start c .pre .0 .stages)
 
 mul-room : tie.Need-mul-room Inv-loop μ-loop
-mul-room c = omega (arith, rooms (c .before .before .before .before .before .before))
+mul-room c = omega (arith, rooms (start c))
 
 cast-gone : tie.Need-cast-gone Inv-loop μ-loop
-cast-gone c = omega (arith, c .before .before .before .before .before .before .pre .0 .stages, c .before .before .before .before .before .before .pre .4)
+cast-gone c = omega (arith, start c .pre .0 .stages, start c .pre .4)
 
 mul-gone : tie.Need-mul-gone Inv-loop μ-loop
-mul-gone c = omega (arith, passed (c .before .before .before .before .before .before))
+mul-gone c = omega (arith, passed (start c))
 
 sub-all : tie.Need-sub-all Inv-loop μ-loop
-sub-all c = omega (arith, c .before .before .before .before .before .before .pre .0 .sets)
+sub-all c = omega (arith, start c .pre .0 .sets)
 
 loop-holds : tie.Need-loop-holds Inv-loop μ-loop
 loop-holds c =
-    let s = c .before .before .before .before .before .before in
+    let s = start c in
     (stage-start _ (s .pre .7) (omega arith), solved-reads _ (s .pre .7) (omega arith))
 
 sub-r : tie.Need-sub-r Inv-loop μ-loop

@@ -14,16 +14,16 @@ use Rattle.solving.proofs.solve.Statement.{statement}
 use Rattle.solving.proofs.solve.Tie as tie
 
 abbrev Inv-loop : tie.InvT-loop
-Inv-loop cost₀ choice₀ need late price opens tracks slots size j₀ later₀ cost choice j later =
-    SolvedFrom (tablesOf need late price opens) (Reachable size tracks) size slots j cost₀ choice₀ cost choice
+Inv-loop cost₀ choice₀ need late price count opens tracks slots size j₀ later₀ cost choice j later =
+    SolvedFrom (tablesOf need late price count opens) (Reachable size tracks) size slots j cost₀ choice₀ cost choice
     × Later slots j later opens
 
 abbrev μ-loop : tie.MeasureT-loop
-μ-loop cost₀ choice₀ need late price opens tracks slots size j₀ later₀ cost choice j later = j
+μ-loop cost₀ choice₀ need late price count opens tracks slots size j₀ later₀ cost choice j later = j
 
 -- the places passed, each from one after it: the start; the last slot filled; the loop, from a turn's call and from the call after it
 abbrev start : tie.After-fill-last-arg2 Inv-loop μ-loop → tie.Start Inv-loop μ-loop
-start c = c .before .before .before .before .before .before .before .before
+start c = c .before .before .before .before .before .before .before .before .before
 
 abbrev filled : tie.After-slice-known4 Inv-loop μ-loop → tie.After-fill-last Inv-loop μ-loop
 filled c = c .before .before .before .before

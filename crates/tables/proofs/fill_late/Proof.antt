@@ -1,81 +1,60 @@
--- `tables::fill_late` meets its contract. The loop's invariant: the table is filled for the `size` sets of the trains passed. A set
--- below 4096 has 12 trains at most.
+-- `tables::fill_late` meets its contract. The loop's invariant: the sets passed are weighed.
 -- Assumes nothing.
-use Prim.Native.Nat.{_≤_, _+_, _-_, _^_}
-use mathlib.Core.Path.{_≡_, refl, ap, _∙_}
+use Prim.Native.Nat.{_≤_, _-_, _*_}
+use mathlib.Core.Path.{refl}
 use borrow.Author.Needs.{needs}
+use native.Mathlib.Nat.{mul-le-mul}
 use native.Mathlib.Omega.{arith}
-use native.Mathlib.Numerals.{add-one}
-use native.Mathlib.Nat.{pow-suc}
-use lib.ListN.{length, set}
-use lib.Pow.{pow-pos}
-use Rattle.fold.specs.Fold.{at-end}
-use Rattle.tables.specs.Entries.{lateCost}
-use Rattle.tables.specs.Filled.{Filled, filled-end, filled-here, filled-since}
-use Rattle.tables.specs.Needing.{sets-fit}
-use Rattle.tables.specs.Costs.{late-first, late-next, late-most}
+use Rattle.optimum.specs.Workspace.{at}
+use Rattle.tables.specs.Filled.{Filled, filled-none, filled-next, filled-end}
 use Rattle.tables.proofs.fill_late.Statement.{statement}
 use Rattle.tables.proofs.fill_late.Tie as tie
 
 abbrev Inv-loop : tie.InvT-loop
-Inv-loop late₀ revisit n size₀ counter₀ late size counter = (counter ≤ n) × (size ≡ 2 ^ counter) × Filled (lateCost revisit) size late₀ late
+Inv-loop late₀ count revisit size m₀ late m = (m ≤ size) × Filled (λ m. revisit * at count m) m late₀ late
 
 abbrev μ-loop : tie.MeasureT-loop
-μ-loop late₀ revisit n size₀ counter₀ late size counter = n - counter
+μ-loop late₀ count revisit size m₀ late m = size - m
 
--- the empty set alone
-first : (s : tie.Start Inv-loop μ-loop) → Filled (lateCost (s .args .revisit)) 1 (s .args .late .now) (set (s .args .late .now) 0 0)
-first s = let some = pow-pos (s .args .n) in late-first _ _ (omega arith)
-
--- there is room for as many sets more
-fits : (c : tie.In-loop Inv-loop μ-loop) → let l = c .before .loop in (l .size ≤ 4096) × (l .size + l .size ≤ length (l .late))
-fits c =
-    let l = c .before .loop in
-    let s = c .before .before .before in
-    let room = sets-fit (l .counter) (s .args .n) (l .size) (l .inv .1) (c .loop-test .taken) (s .pre .1) in
-    let long = l .inv .2 .kept .long ∙ first s .kept .long in
-    omega arith
-
-slice-write-late : tie.Need-slice-write-late Inv-loop μ-loop
-slice-write-late c = let some = pow-pos (c .before .args .n) in omega arith
+-- the count that is read is a byte
+counted : (c : tie.After-shared-slice-known Inv-loop μ-loop) → at (c .before .before .before .args .count .now) (c .before .before .loop .m) ≤ 255
+counted c = omega (arith, c .shared-slice-known .given (c .before .before .loop .m))
 
 loop-holds : tie.Need-loop-holds Inv-loop μ-loop
-loop-holds c = (search needs, refl, filled-here (first (c .before)))
+loop-holds c = (search needs, filled-none _ _)
 
-add-revisit-requires : tie.Need-add-revisit-requires Inv-loop μ-loop
-add-revisit-requires c κs =
-    let l = c .before .before .loop in
-    let s = c .before .before .before .before in
-    let room = fits (c .before) in (
-      room .0,
-      room .1,
-      λ m q. let is = l .inv .2 .all m q in let most = late-most (s .args .revisit) m (s .pre .0) (omega arith) in omega arith,
-    )
+shared-slice-read-late : tie.Need-shared-slice-read-late Inv-loop μ-loop
+shared-slice-read-late c = omega arith
 
-add-size : tie.Need-add-size Inv-loop μ-loop
-add-size c = let room = fits (c .before .before .before .before) in omega arith
+cast-late : tie.Need-cast-late Inv-loop μ-loop
+cast-late c = omega (arith, counted c)
 
-add-counter : tie.Need-add-counter Inv-loop μ-loop
-add-counter c = search needs
+mul-late : tie.Need-mul-late Inv-loop μ-loop
+mul-late c = let s = c .before .before .before in omega (arith, mul-le-mul (s .pre .0) (counted c))
+
+mul-late-2 : tie.Need-mul-late-2 Inv-loop μ-loop
+mul-late-2 c = search needs
+
+slice-write-late : tie.Need-slice-write-late Inv-loop μ-loop
+slice-write-late c = let long = c .before .before .loop .inv .1 .kept .long in omega arith
+
+add-m : tie.Need-add-m Inv-loop μ-loop
+add-m c = search needs
 
 loop-less : tie.Need-loop-less Inv-loop μ-loop
 loop-less c = search needs
 
 loop-again : tie.Need-loop-again Inv-loop μ-loop
 loop-again c =
-    let l = c .before .before .before .before .before .loop in
-    let twice = ap (λ x. 2 ^ x) (add-one (l .counter)) ∙ pow-suc 2 (l .counter) in
-    (search needs, omega (arith, l .inv .1), late-next _ (l .counter) (l .size) (l .inv .2) (l .inv .1) (c .before .before .add-revisit .ensures))
+    let l = c .before .before .loop in
+    let long = l .inv .1 .kept .long in
+    (search needs, filled-next _ (l .inv .1) (omega arith) refl)
 
 same-length : tie.Need-same-length Inv-loop μ-loop
-same-length c = c .before .loop .inv .2 .kept .long ∙ first (c .before .before .before) .kept .long
+same-length c = c .before .loop .inv .1 .kept .long
 
 returns : tie.Need-returns Inv-loop μ-loop
-returns c =
-    let s = c .before .before .before in
-    let l = c .before .loop in
-    let end = l .inv .1 ∙ at-end (λ k. 2 ^ k) (l .counter) (s .args .n) (l .inv .0) (c .loop-test .left) in
-    filled-since (first s) (pow-pos (s .args .n)) (filled-end (2 ^ s .args .n) (l .inv .2) (omega arith) (omega arith))
+returns c = filled-end _ (c .before .loop .inv .1) (omega arith) (omega arith)
 
 pub fill-late-spec : {M : Type 1} → statement M
 fill-late-spec =
@@ -83,11 +62,13 @@ fill-late-spec =
     (tie.spec
     Inv-loop
     μ-loop
-    slice-write-late
     loop-holds
-    add-revisit-requires
-    add-size
-    add-counter
+    shared-slice-read-late
+    cast-late
+    mul-late
+    mul-late-2
+    slice-write-late
+    add-m
     loop-less
     loop-again
     same-length
