@@ -52,6 +52,17 @@ const EIGHT_SUPPLIED: &[&str] =
 const FROM_NINE: &[&str] =
     &["1 9 1", "2 9 1", "3 9 1", "4 9 1", "5 9 1", "6 9 1", "7 9 1", "8 9 1"];
 
+/// Nine trains bound to slot 1 receive a box each from train 10, which has a
+/// choice, and train 11 in slot 2 receives ten.
+const NINE_SUPPLIED: &[&str] = &[
+    "1 1 1", "2 1 1", "3 1 1", "4 1 1", "5 1 1", "6 1 1", "7 1 1", "8 1 1", "9 1 1", "10 1 2",
+    "11 2 2",
+];
+const FROM_TEN: &[&str] = &[
+    "1 10 1", "2 10 1", "3 10 1", "4 10 1", "5 10 1", "6 10 1", "7 10 1", "8 10 1", "9 10 1",
+    "11 10 10",
+];
+
 const SEVEN_LATE: &[&str] =
     &["1 8 8", "2 8 8", "3 8 8", "4 8 8", "5 8 8", "6 8 8", "7 8 8", "8 7 8"];
 
@@ -62,7 +73,7 @@ const ONE_PLACE_LEFT: &[&str] =
 /// The comments say what decides: revisits, sums and masks of the assignments in
 /// their order, the mask being that of the lowest slot where they differ.
 #[rustfmt::skip]
-pub const TIED_DAYS: [TiedDay; 25] = [
+pub const TIED_DAYS: [TiedDay; 26] = [
     // Revisits 0, 1; sums 5, 3 and masks 0, 2 speak for the second.
     tied("revisits before sum and masks", "2 1 3 0 0", &["1 2 2", "2 1 3"], &["2 1 1"], &[&[2, 3], &[2, 1]], [0, 1, 0]),
     // Revisits 0, 1, split moves 2, 1; sums 8, 6 and masks 4, 6 speak for the second.
@@ -72,6 +83,8 @@ pub const TIED_DAYS: [TiedDay; 25] = [
     // 2 1 3 2 has no revisit, sum 8 to 10 and mask 2 to 0, but costs 2, and then 4.
     tied("cost before revisits, weight 0", "4 2 3 0 1", AFTER_OR_BEFORE, TO_ONE_AND_THREE, &[&[2, 3, 3, 2]], [1, 1, 1]),
     tied("cost before revisits", "4 2 3 1 2", AFTER_OR_BEFORE, TO_ONE_AND_THREE, &[&[2, 3, 3, 2]], [1, 1, 3]),
+    // 1 .. 1 1 2 has no revisit, sum 12 to 13 and mask 1023 to 511, but costs 10.
+    tied("one box before nine revisits", "11 10 2 0 1", NINE_SUPPLIED, FROM_TEN, &[&[1, 1, 1, 1, 1, 1, 1, 1, 1, 2, 2]], [9, 9, 9]),
     tied("the same, a revisit as dear as a box", "4 2 3 1 1", AFTER_OR_BEFORE, TO_ONE_AND_THREE, &[&[2, 1, 3, 2], &[2, 3, 3, 2]], [0, 2, 2]),
     // Revisits 0, 1; one split move and sum 3 each, masks 1, 2.
     tied("weights 0 and 1", "2 1 2 0 1", TWO, &["9 3 1"], &[&[1, 2], &[2, 1]], [0, 1, 1]),

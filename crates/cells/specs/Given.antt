@@ -2,20 +2,15 @@
 -- costs fits 32 bits and its key 43, so that every sum over slots fits 64 and stays below `noCost`. And the cells that they find.
 -- Assumes nothing.
 use mathlib.Core.List.{List}
-use Prim.Native.Nat.{ℕ, suc, _+_, _-_, _*_, _^_, _≤_, _<_}
+use Prim.Native.Nat.{ℕ, suc, _-_, _*_, _^_, _≤_, _<_}
 use native.Mathlib.Omega.{arith}
-use lib.Bits.{bitAnd}
 use lib.Dec.{T}
 use lib.ListN.{length}
 use Rattle.sets.specs.Subset.{Sub}
 use Rattle.optimum.specs.Workspace.{at}
 use Rattle.optimum.specs.Least.{Cell}
 use Rattle.optimum.specs.Stages.{cell, tab, choice}
-use Rattle.staging.specs.Tables.{Tables, barred, noCost, fromTables, costFromTables, keyFromTables}
-
--- the trains of s with a supplier in `rest`
-abbrev pub lateSet : List ℕ → ℕ → ℕ → ℕ
-lateSet need rest s = bitAnd s (at need rest)
+use Rattle.staging.specs.Tables.{Tables, keysBelow, barred, noCost, fromTables, costFromTables, keyFromTables}
 
 -- tables for the sets below `size` and for the first `slots` slots
 pub record Given (size slots : ℕ) (x : Tables) : Type 0 where
@@ -34,7 +29,7 @@ pub record Given (size slots : ℕ) (x : Tables) : Type 0 where
 -- values that a cell of slot j + 1 reads where r remains: of what its choices leave, none, or what at most 8 slots come to
 pub record Rests (x : Tables) (cost : List ℕ) (j r : ℕ) : Type 0 where
   pub long : r < length cost
-  pub low : (s : ℕ) → Sub s r → T (fromTables x (suc j) r s) → at cost (r - s) < noCost → at cost (r - s) ≤ 8 * 2 ^ 43
+  pub low : (s : ℕ) → Sub s r → T (fromTables x (suc j) r s) → at cost (r - s) < noCost → at cost (r - s) ≤ 8 * keysBelow
 
 -- the cell of stage j + 1, where r remains and `cost` holds the values of the next stage
 abbrev pub cellFrom : Tables → List ℕ → ℕ → ℕ → Cell

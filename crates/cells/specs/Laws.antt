@@ -1,10 +1,10 @@
 -- The test and the contribution from the tables (staging's Tables.antt), as the loops use them: at stage j + 1 the test is that the price
--- is not barred and the set within the open set of index j; a key fits 43 bits; the cell of the last stage.
+-- is not barred and the set within the open set of index j; a key stays low; the cell of the last stage.
 -- Assumes nothing.
 use mathlib.Core.Path.{_≡_, refl, sym, ap, ap₂, _∙_, subst}
 use mathlib.Core.Bool.{_&&_}
 use mathlib.Core.List.{List}
-use Prim.Native.Nat.{ℕ, suc, _+_, _-_, _*_, _^_, _≤_, _<_}
+use Prim.Native.Nat.{ℕ, suc, _+_, _-_, _^_, _≤_, _<_}
 use native.Mathlib.Omega.{arith}
 use lib.Bits.{bitAnd, and-le-l}
 use lib.Dec.{T, ltb, ltb→lt, eqb→eq}
@@ -15,8 +15,8 @@ use Rattle.optimum.specs.Workspace.{at}
 use Rattle.optimum.specs.Offers.{offer-yes, offer-lt}
 use Rattle.optimum.specs.Tried.{Tried}
 use Rattle.optimum.specs.Direct.{last-whole}
-use Rattle.staging.specs.Tables.{Tables, barred, noCost, fromTables, costFromTables, setKeyFromTables, keyFromTables, costUnit, revisitUnit}
-use Rattle.cells.specs.Given.{lateSet, Given, Rests, lastFrom}
+use Rattle.staging.specs.Tables.{Tables, keysBelow, barred, noCost, fromTables, lateSet, slotSum, setKey, setKeyFromTables, keyFromTables}
+use Rattle.cells.specs.Given.{Given, Rests, lastFrom}
 
 -- ---- the test
 
@@ -52,14 +52,14 @@ key-waits x t r s = refl
 
 module _ {size slots : ℕ} {x : Tables} (g : Given size slots x) where
   -- at most 12 trains revisit
-  pub few-late : (rest s : ℕ) → s < size → at (x .count) (lateSet (x .need) rest s) ≤ 12
+  few-late : (rest s : ℕ) → s < size → at (x .count) (lateSet (x .need) rest s) ≤ 12
   few-late rest s l = g .few (lateSet (x .need) rest s) (omega (arith, and-le-l s (at (x .need) rest)))
 
   -- a key of a set that is not barred, without and with the trains that wait
-  pub priced-fits : (t r s : ℕ) → r < size → Sub s r → at (x .price) s < barred → setKeyFromTables x t r s + at (x .count) r < 2 ^ 43
+  priced-fits : (t r s : ℕ) → r < size → Sub s r → at (x .price) s < barred → setKeyFromTables x t r s + at (x .count) r < keysBelow
   priced-fits t r s l hs p = omega (arith, g .fits t r s l hs p, few-late (r - s) s (omega (arith, sub-le s r hs)), g .few r l)
 
-  pub served-fits : (t r s : ℕ) → r < size → Sub s r → T (fromTables x t r s) → keyFromTables x t r s < 2 ^ 43
+  pub served-fits : (t r s : ℕ) → r < size → Sub s r → T (fromTables x t r s) → keyFromTables x t r s < keysBelow
   served-fits t r s l hs h = omega (arith, key-waits x t r s, priced-fits t r s l hs (serve-priced x t r s h))
 
   -- what a walk through the sets of m has found stays low, with the trains that wait too
@@ -81,25 +81,16 @@ module _ {size slots : ℕ} {x : Tables} (g : Given size slots x) where
     nothing : r - r ≡ 0
     nothing = omega arith
 
-    -- the trains of r that revisit where `rest` remains: what the slot costs, and its key
-    costWith : ℕ → ℕ
-    costWith rest = at (x .late) (lateSet (x .need) rest r) + at (x .price) r
-
-    keyWith : ℕ → ℕ
-    keyWith rest = costWith rest * costUnit + at (x .count) (lateSet (x .need) rest r) * revisitUnit + at (x .count) r
-
-    pub whole-fits : at (x .late) (lateSet (x .need) 0 r) + at (x .price) r < 2 ^ 32
-    unfolding costWith
-    whole-fits = subst (λ k. costWith k < 2 ^ 32) nothing (g .fits (suc j) r r l (sub-refl r) (serve-priced x (suc j) r r may))
-
     abbrev pub wholeKey : ℕ
-    wholeKey = (at (x .late) (lateSet (x .need) 0 r) + at (x .price) r) * costUnit + at (x .count) (lateSet (x .need) 0 r) * revisitUnit + at (x .count) r
+    wholeKey = setKey x 0 r + at (x .count) r
+
+    pub whole-fits : slotSum x 0 r < 2 ^ 32
+    whole-fits = subst (λ k. slotSum x k r < 2 ^ 32) nothing (g .fits (suc j) r r l (sub-refl r) (serve-priced x (suc j) r r may))
 
     whole-key : wholeKey ≡ keyFromTables x (suc j) r r
-    unfolding keyWith costWith
-    whole-key = ap keyWith (sym nothing) ∙ sym (key-waits x (suc j) r r)
+    whole-key = ap (λ k. setKey x k r + at (x .count) r) (sym nothing) ∙ sym (key-waits x (suc j) r r)
 
-    pub whole-low : wholeKey < 2 ^ 43
+    pub whole-low : wholeKey < keysBelow
     whole-low = omega (arith, whole-key, served-fits (suc j) r r l (sub-refl r) may)
 
     pub whole-cell : (wholeKey ≡ lastFrom x j r .value) × (r ≡ lastFrom x j r .set)

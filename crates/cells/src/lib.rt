@@ -6,12 +6,12 @@
 // keys in 64. Over slices, for up to 12 trains and 8 slots. Assumes nothing.
 ghost use mathlib.Core.Path.{_≡_};
 ghost use mathlib.Core.Bool.{true};
-ghost use Prim.Native.Nat.{_+_, _*_, _^_, _≤_, _<_};
+ghost use Prim.Native.Nat.{_+_, _^_, _<_};
 ghost use lib.ListN.{length};
 ghost use Rattle.optimum.specs.Offers.{offer};
 ghost use Rattle.optimum.specs.Workspace.{at};
-ghost use Rattle.staging.specs.Tables.{tablesOf, noCost};
-ghost use Rattle.cells.specs.Given.{lateSet, Given, Rests, cellFrom, lastFrom};
+ghost use Rattle.staging.specs.Tables.{tablesOf, noCost, lateSet};
+ghost use Rattle.cells.specs.Given.{Given, Rests, cellFrom, lastFrom};
 
 // A cell of the table: the least key, and the set that is served for it.
 pub struct Pick {

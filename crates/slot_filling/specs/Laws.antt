@@ -5,7 +5,7 @@ use mathlib.Core.Path.{_≡_, ap, _∙_, subst}
 use mathlib.Core.Bool.{true, not, _||_}
 use mathlib.Core.Logic.{⊎-elim}
 use mathlib.Core.List.{List}
-use Prim.Native.Nat.{ℕ, zero, suc, _+_, _-_, _*_, _^_, _≤_, _<_}
+use Prim.Native.Nat.{ℕ, zero, suc, _+_, _-_, _*_, _≤_, _<_}
 use native.Mathlib.Nat.{mul-comm, mul-le-mul, eq-or-lt-of-le}
 use native.Mathlib.Omega.{arith}
 use lib.Arith.{digits-lt}
@@ -20,7 +20,7 @@ use Rattle.optimum.specs.Workspace.{at}
 use Rattle.optimum.specs.Stages.{tab, choice, tab-small}
 use Rattle.optimum.specs.Direct.{crowded-none, outside-none}
 use Rattle.optimum.specs.Layers.{Table}
-use Rattle.staging.specs.Tables.{Tables, noCost, fromTables, keyFromTables}
+use Rattle.staging.specs.Tables.{Tables, keysBelow, noCost, fromTables, keyFromTables}
 use Rattle.staging.specs.Reachable.{Reachable, reachable-next}
 use Rattle.cells.specs.declared.Pick.{Pick}
 use Rattle.cells.specs.Given.{Given, Rests}
@@ -46,8 +46,8 @@ module _ {size slots : ℕ} {x : Tables} (g : Given size slots x) where
             let w = keyFromTables x in
             let i : ℕ = r - s in
             let e : at a i ≡ tab ok w noCost (slots - suc j) (suc (suc j)) i = h .holds i (omega arith) (leaves-reachable s room (omega arith) here hs may) in
-            let b : tab ok w noCost (slots - suc j) (suc (suc j)) i ≤ (slots - suc j) * 2 ^ 43 =
-            tab-small ok w noCost (suc (suc slots)) i (2 ^ 43) (λ t r s d b hs m. omega (arith, served-fits g t r s (omega arith) hs m)) (slots - suc j) (suc (suc j)) i
+            let b : tab ok w noCost (slots - suc j) (suc (suc j)) i ≤ (slots - suc j) * keysBelow =
+            tab-small ok w noCost (suc (suc slots)) i (keysBelow) (λ t r s d b hs m. omega (arith, served-fits g t r s (omega arith) hs m)) (slots - suc j) (suc (suc j)) i
             (omega arith) (omega arith) (omega arith) in
             let eight : slots ≤ 8 = g .stages .1 in
             omega arith;

@@ -1,6 +1,6 @@
 // Solving the staged choices of a day from its tables over sets: slot after slot from the last.
 //
-// Proved: `solve` leaves the least cost of all trains and the choices of all slots for what can remain of them, as optimum's `Solved`
+// Proved: `solve` leaves the least key of all trains and the choices of all slots for what can remain of them, as optimum's `Solved`
 // says. Over slices, for up to 12 trains and 8 slots. Assumes nothing.
 ghost use Prim.Native.Nat.{_-_, _*_, _≤_, _<_};
 ghost use lib.ListN.{length};
@@ -9,7 +9,7 @@ ghost use Rattle.staging.specs.Reachable.{Reachable};
 ghost use Rattle.cells.specs.Given.{Given};
 ghost use Rattle.slot_filling.specs.Given.{Room, SolvedFrom};
 
-// The least cost of all trains in the last of the first `size` words of `cost`, and the choices that lead to it in the first
+// The least key of all trains in the last of the first `size` words of `cost`, and the choices that lead to it in the first
 // `slots * size` of `choice`, slot by slot from the last: the cells of what can remain. The others of these words may hold anything; the
 // words behind stay as they were.
 pub fn solve(

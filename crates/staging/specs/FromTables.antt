@@ -17,7 +17,7 @@ use Rattle.model.specs.Model.{Yard, received, cost}
 use Rattle.optimum.specs.Layers.{Solved}
 use Rattle.optimum.specs.Agree.{solved-agree}
 use Rattle.staging.specs.Serving.{servable-is}
-use Rattle.staging.specs.Tables.{needing, fromOutside, openIn, together, servable, lateTrains, slotCost, stageKey, Tables, barred, fromTables, costFromTables, keyFromTables}
+use Rattle.staging.specs.Tables.{needing, fromOutside, openIn, together, servable, lateTrains, slotCost, stageKey, Tables, barred, fromTables, lateSet, costFromTables, keyFromTables}
 use Rattle.staging.specs.SlotInRow.{rowAround, slot-in-row, split-in-row}
 
 -- a set that may be served in some slot, as far as tracks and groups go
@@ -75,7 +75,7 @@ module _ {y : Yard} {x : Tables} (h : DayTables y x) where
       (priced s within fits)
 
   -- the trains of s that revisit, counted
-  revisits-read : (r s : ℕ) → r < 2 ^ y .trains → Sub s r → getD (x .count) (bitAnd s (getD (x .need) (r - s) 0)) 0 ≡ lateTrains y r s
+  revisits-read : (r s : ℕ) → r < 2 ^ y .trains → Sub s r → getD (x .count) (lateSet (x .need) (r - s) s) 0 ≡ lateTrains y r s
   revisits-read r s l hs =
       let later = needing (y .trains) (received y) (r - s) in
       ap (λ v. getD (x .count) (bitAnd s v) 0) (h .needs (r - s) (omega arith))

@@ -1,6 +1,6 @@
 -- The key of a row (order 5 of document 02): cost, revisits and the sum of slot numbers are sums over the slots of what a stage sees, so a
 -- row's worth is the three packed into one number (`row-key`), which orders rows as the three do, one after the other (`key-cost`), and
--- stays below 2^43 (`key-low`). The sum of slot numbers is the sum over the slots of how many trains remain before each
+-- stays below `keysBelow` (`key-low`). The sum of slot numbers is the sum over the slots of how many trains remain before each
 -- (`slots-by-slot`): a train remains before as many slots as its slot's number says.
 -- Assumes nothing.
 use mathlib.Core.Path.{_≡_, sym, ap, ap₂, _∙_}
@@ -19,7 +19,7 @@ use Rattle.sets.specs.Mask.{ones-mask}
 use Rattle.model.specs.Model.{Yard, received, slotOf, revisiting, revisits, cost, slotTotal}
 use Rattle.optimum.specs.Keys.{pack, worth-pack}
 use Rattle.optimum.specs.Rows.{remaining, worth}
-use Rattle.staging.specs.Tables.{lateTrains, slotCost, waiting, revisitsBelow, sumsBelow, stageKey}
+use Rattle.staging.specs.Tables.{lateTrains, slotCost, waiting, revisitsBelow, sumsBelow, keysBelow, stageKey}
 use Rattle.staging.specs.CostBySlot.{Slotted, revisits-by-slot, worth-cost}
 
 -- ---- the sum of slot numbers
@@ -77,5 +77,5 @@ module _ (y : Yard) (few : Few y) (row : List ℕ) where
   slots-low staged = omega (arith, sum-bound (y .trains) (y .slots) (slotOf row) (λ i l. staged i l .1), mul-le-mul (few .trains) (few .slots))
 
   -- a cost of 32 bits gives a key of 43
-  pub key-low : Slotted (y .trains) (y .slots) row → cost y row < 2 ^ 32 → rowKey y row < 2 ^ 43
+  pub key-low : Slotted (y .trains) (y .slots) row → cost y row < 2 ^ 32 → rowKey y row < keysBelow
   key-low staged l = omega (arith, revisits-low, slots-low staged)

@@ -12,7 +12,7 @@ use Rattle.model.specs.Model.{Yard, cost, Best, NoRow}
 use Rattle.optimum.specs.Layers.{Closed, Solved}
 use Rattle.optimum.specs.Best.{optimum, optimum-lower}
 use Rattle.optimum.specs.Chosen.{rowIn, Leads, solved-value, solved-leads, solved-best}
-use Rattle.staging.specs.Tables.{servable, stageKey}
+use Rattle.staging.specs.Tables.{servable, keysBelow, stageKey}
 use Rattle.staging.specs.Reachable.{Reachable, reachable-all, reachable-closed}
 use Rattle.staging.specs.AllowedRows.{allowed-row}
 use Rattle.staging.specs.KeyBySlot.{Few, key-low}
@@ -39,7 +39,7 @@ module _ (y : Yard) (few : Few y) {a₀ c₀ a c : List ℕ} {inf N : ℕ} (size
     pub solution-best : Best y (rowIn c (y .trains) (y .slots) N)
     solution-best = best-plan y few (rowIn c (y .trains) (y .slots) N) (solved-best (y .trains) size closed top solved some)
 
-  pub solution-none : ((row : List ℕ) → cost y row < 2 ^ 32) → 2 ^ 43 ≤ inf → inf ≤ getD a (N - 1) 0 → NoRow y
+  pub solution-none : ((row : List ℕ) → cost y row < 2 ^ 32) → keysBelow ≤ inf → inf ≤ getD a (N - 1) 0 → NoRow y
   solution-none cheap high missing row h =
       let o = allowed-row y row h in
       omega (arith, value, optimum-lower (servable y) (stageKey y) inf (y .trains) (y .slots) row o, day-key y o, key-low y few row (o .staged) (cheap row))

@@ -3,7 +3,7 @@
 -- Assumes nothing.
 use mathlib.Core.Bool.{Bool, not, cond, _&&_}
 use mathlib.Core.List.{List}
-use Prim.Native.Nat.{ℕ, _+_, _-_, _*_}
+use Prim.Native.Nat.{ℕ, _+_, _-_, _*_, _^_}
 use lib.Bits.{bitAnd}
 use lib.Count.{ones}
 use lib.Dec.{leb, ltb}
@@ -58,6 +58,10 @@ revisitsBelow = 16
 abbrev pub sumsBelow : ℕ
 sumsBelow = 128
 
+-- what a key stays below, of a slot and of a row: a cost of 32 bits stands above 11 bits
+abbrev pub keysBelow : ℕ
+keysBelow = 2 ^ 43
+
 -- the key of a plan, slot by slot: planning makes the sum least. The cost stands above the revisits, and these above the sum of slot
 -- numbers (order 5 of 02)
 abbrev pub stageKey : Yard → Contribution
@@ -81,26 +85,37 @@ tablesOf need late price count opens = record { need = need; late = late; price 
 abbrev pub barred : ℕ
 barred = 4294967295
 
--- the cost of what cannot be served
+-- the key of what cannot be served
 abbrev pub noCost : ℕ
 noCost = 18446744073709551615
 
 unfoldable pub fromTables : Tables → Test
 fromTables x t r s = ltb (getD (x .price) s 0) barred && subset s (getD (x .opens) (t - 1) 0)
 
-abbrev pub costFromTables : Tables → Contribution
-costFromTables x t r s = getD (x .late) (bitAnd s (getD (x .need) (r - s) 0)) 0 + getD (x .price) s 0
+-- the trains of s that revisit where `rest` remains: those with a supplier in it, from the table `need`
+abbrev pub lateSet : List ℕ → ℕ → ℕ → ℕ
+lateSet need rest s = bitAnd s (getD need rest 0)
+
+-- what a slot costs in which s is served and `rest` remains
+abbrev pub slotSum : Tables → ℕ → ℕ → ℕ
+slotSum x rest s = getD (x .late) (lateSet (x .need) rest s) 0 + getD (x .price) s 0
 
 -- a unit of cost and a revisit, in a key
 abbrev pub costUnit : ℕ
-costUnit = 2048
+costUnit = revisitsBelow * sumsBelow
 
 abbrev pub revisitUnit : ℕ
-revisitUnit = 128
+revisitUnit = sumsBelow
 
--- what the set s adds to the key: its cost and its revisits
+-- what s adds to the key there: its cost and its revisits
+abbrev pub setKey : Tables → ℕ → ℕ → ℕ
+setKey x rest s = slotSum x rest s * costUnit + getD (x .count) (lateSet (x .need) rest s) 0 * revisitUnit
+
+abbrev pub costFromTables : Tables → Contribution
+costFromTables x t r s = slotSum x (r - s) s
+
 abbrev pub setKeyFromTables : Tables → Contribution
-setKeyFromTables x t r s = costFromTables x t r s * costUnit + getD (x .count) (bitAnd s (getD (x .need) (r - s) 0)) 0 * revisitUnit
+setKeyFromTables x t r s = setKey x (r - s) s
 
 -- and with it the trains that wait, which every set of the cell adds alike
 unfoldable pub keyFromTables : Tables → Contribution

@@ -13,7 +13,7 @@ use Rattle.sets.specs.Subset.{Sub, sub-le, sub-refl, sub-trans, sub-and, walk-s
 use Rattle.sets.specs.Rest.{meet-left}
 use Rattle.optimum.specs.Workspace.{at}
 use Rattle.optimum.specs.Tried.{Tried, tried-start, tried-take, tried-skip, tried-is, tried-next, tried-raise, tried-meet}
-use Rattle.staging.specs.Tables.{Tables, tablesOf, barred, noCost, fromTables, costFromTables, setKeyFromTables}
+use Rattle.staging.specs.Tables.{Tables, tablesOf, keysBelow, barred, noCost, fromTables, costFromTables, setKeyFromTables}
 use Rattle.cells.specs.Laws.{may-serve, serve-open, serve-priced, key-waits, found-low}
 use Rattle.cells.proofs.cheapest.Statement.{statement}
 use Rattle.cells.proofs.cheapest.Tie as tie
@@ -99,7 +99,7 @@ module _ (c : tie.After-slot-cost Inv-loop μ-loop) where
       let z = from (priced p) .args in
       omega (arith, c .slot-cost .ensures, ap (at (z .late .now)) (c .before .late-set .ensures), fits (priced p) (p .if1 .taken))
 
-  rest-low : let a = priced (left (summed c)) in at (from a .args .cost .now) (from a .args .r - a .loop .s) ≤ 8 * 2 ^ 43
+  rest-low : let a = priced (left (summed c)) in at (from a .args .cost .now) (from a .args .r - a .loop .s) ≤ 8 * keysBelow
   rest-low =
       let p = left (summed c) in
       let a = priced p in

@@ -1,6 +1,6 @@
 -- `cells::whole` meets its contract. The code's test is that of the tables, so r is the only set that the last slot can serve, or none is.
 -- Assumes nothing.
-use Prim.Native.Nat.{suc, _+_, _*_, _^_, _≤_, _<_}
+use Prim.Native.Nat.{suc, _+_, _*_, _≤_, _<_}
 use mathlib.Core.Path.{_≡_, ap, _∙_, subst}
 use native.Mathlib.Omega.{arith}
 use borrow.Author.Needs.{needs}
@@ -9,7 +9,7 @@ use lib.Dec.{T}
 use Rattle.fold.specs.Test.{of-true}
 use Rattle.optimum.specs.Direct.{last-none}
 use Rattle.optimum.specs.Workspace.{at}
-use Rattle.staging.specs.Tables.{Tables, tablesOf, noCost, fromTables, keyFromTables}
+use Rattle.staging.specs.Tables.{Tables, tablesOf, keysBelow, noCost, fromTables, keyFromTables}
 use Rattle.cells.specs.Laws.{test-reads, whole-fits, wholeKey, whole-low, whole-cell}
 use Rattle.cells.proofs.whole.Statement.{statement}
 use Rattle.cells.proofs.whole.Tie as tie
@@ -57,7 +57,7 @@ module _ (c : tie.After-slot-cost) where
       let same = c .before .late-set .ensures in
       omega (arith, c .slot-cost .ensures, ap (at (z .late .now)) same, ap (at (z .count .now)) same)
 
-  key-low : let s = from c in wholeKey (s .pre) (s .args .j) (s .args .r) (omega arith) (may (served c)) < 2 ^ 43
+  key-low : let s = from c in wholeKey (s .pre) (s .args .j) (s .args .r) (omega arith) (may (served c)) < keysBelow
   key-low = let s = from c in whole-low (s .pre) (s .args .j) (s .args .r) (omega arith) (may (served c))
 
 -- ---- the needs
