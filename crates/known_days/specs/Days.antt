@@ -38,6 +38,16 @@ unfoldable pub openDay : ℕ → ℕ → ℕ → List Move → Day
 unfolding dayOf
 openDay n tracks slots moves = dayOf n tracks slots 1 1 (replicate n 1) (replicate n slots) moves
 
+-- windows 1..T and weights 0: all rows cost the same
+unfoldable pub weightless : ℕ → ℕ → ℕ → List Move → Day
+unfolding dayOf
+weightless n tracks slots moves = dayOf n tracks slots 0 0 (replicate n 1) (replicate n slots) moves
+
+-- a box to each of the trains 1 to 11 from train 12
+unfoldable pub fromTwelve : List Move
+unfolding listed
+fromTwelve = listed 11 λ i. move (suc i) 12 1
+
 -- P1's day, its weights, and the first slot of train 4
 unfoldable pub paperDay : ℕ → ℕ → ℕ → Day
 unfolding dayOf

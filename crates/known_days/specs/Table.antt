@@ -1,11 +1,11 @@
--- P1 to P13 of document 01, its edges and the refusals 8, 11, 12 and 13, days compared with the procedures of document 02's order 1, and
--- days with the wagon sets of its order 4, as one table, and the one theorem that every line holds:
+-- P1 to P13 of document 01, its edges and the refusals 8, 11, 12 and 13, days compared with the procedures of document 02's order 1, days
+-- with the wagon sets of its order 4 and with ties that its order 5 decides, as one table, and the one theorem that every line holds:
 --     every-line : (l : Line) → List·Memᴰ l table → Holds l
 -- What a line says is `Holds` of Lines.antt. The checker computes one test over the whole table; `line-holds` turns a line's test into its
 -- statement. "The best plan" speaks of every row, through the enumeration of the model's Rows.antt, which is proved complete.
 -- Assumes nothing.
 use mathlib.Core.Bool.{true, false}
-use mathlib.Core.List.{List, [], _∷_, List·Memᴰ}
+use mathlib.Core.List.{List, [], _∷_, _++_, List·Memᴰ}
 use Prim.Native.Nat.{ℕ}
 use lib.Dec.{T}
 use lib.IntN.{pos}
@@ -29,7 +29,7 @@ use Rattle.procedures.specs.Procedures.{trackFree, waits, suits, earliest, come
 use Rattle.comparing.specs.Comparing.{Comparison, against}
 use Rattle.baselines.specs.Baselines.{compared}
 use Rattle.known_days.specs.Lines.{Line, values, best, later, refused, unkept, accepted, plans, compares, comparesIn, Holds, sameOutcome, sameInt, sameComparison, sameAnswer, isRow, isNone, isInterval, noInterval, passes, line-holds}
-use Rattle.known_days.specs.Days.{move, dayOf, openDay, paperDay, numbered, inGroups}
+use Rattle.known_days.specs.Days.{move, dayOf, openDay, weightless, fromTwelve, paperDay, numbered, inGroups}
 
 -- ---- the table
 
@@ -37,7 +37,7 @@ abbrev pub saving : Outcome → ℕ → Answer Comparison
 saving o saved = gives record { outcome = o; saving = pos saved }
 
 unfoldable pub table : List Line
-unfolding dayOf openDay paperDay numbered inGroups
+unfolding dayOf openDay weightless fromTwelve paperDay numbered inGroups
 table =
     -- P1 to P3, the source's example
     best (paperDay 1 1 1) (2 ∷ 1 ∷ 2 ∷ 1 ∷ []) (figures 1 7 8)
@@ -74,6 +74,23 @@ table =
     ∷ later (openDay 3 2 2 (move 1 2 1 ∷ [])) (1 ∷ 1 ∷ 2 ∷ []) (2 ∷ 2 ∷ 1 ∷ []) 0
     ∷ best (inGroups (1 ∷ 1 ∷ 0 ∷ []) (openDay 3 2 2 [])) (1 ∷ 1 ∷ 2 ∷ []) (figures 0 0 0)
     ∷ later (openDay 3 1 3 (move 1 2 1 ∷ [])) (3 ∷ 2 ∷ 1 ∷ []) (3 ∷ 1 ∷ 2 ∷ []) 1
+    -- one revisit less before 83 less in the sum; 7 revisits before 8, 10 before 11; sums of 88 before 89, 63 before 64
+    ∷ later (weightless 12 12 8 (move 1 2 1 ∷ [])) (replicate 12 8) (1 ∷ 2 ∷ replicate 10 1) 0
+    ∷ later (weightless 12 12 2 fromTwelve) (replicate 7 1 ++ replicate 5 2) (replicate 8 1 ++ replicate 4 2) 0
+    ∷ later (weightless 12 12 2 fromTwelve) (replicate 10 1 ++ replicate 2 2) (replicate 11 1 ++ replicate 1 2) 0
+    ∷ later (openDay 12 12 8 []) (2 ∷ replicate 10 8 ++ (6 ∷ [])) (1 ∷ replicate 11 8) 0
+    ∷ later (openDay 10 10 8 []) (2 ∷ replicate 8 7 ++ (5 ∷ [])) (1 ∷ replicate 9 7) 0
+    -- the sum itself: 3 1 and 2 2 are equal; set numbers of slots 7 and 8 and of positions 11 and 12
+    ∷ later (openDay 2 2 3 []) (3 ∷ 1 ∷ []) (2 ∷ 2 ∷ []) 0
+    ∷ later (openDay 12 12 8 []) (replicate 10 1 ++ (8 ∷ 7 ∷ [])) (replicate 10 1 ++ (7 ∷ 8 ∷ [])) 0
+    -- where a revisit is as dear as a box, and with groups, fewer revisits; a revisit for several suppliers is one, and its return adds
+    -- nothing to the sum; split moves are no key; a sum that decides where the plan has a cost and a revisit
+    ∷ best (dayOf 4 2 3 1 1 (2 ∷ 1 ∷ 1 ∷ 2 ∷ []) (2 ∷ 3 ∷ 1 ∷ 2 ∷ []) (move 2 1 1 ∷ move 2 3 1 ∷ [])) (2 ∷ 3 ∷ 1 ∷ 2 ∷ []) (figures 0 2 2)
+    ∷ best (inGroups (1 ∷ 1 ∷ 0 ∷ 0 ∷ []) (paperDay 0 0 1)) (1 ∷ 1 ∷ 2 ∷ 2 ∷ []) (figures 1 10 0)
+    ∷ best (dayOf 3 1 3 0 0 (replicate 3 1) (3 ∷ 3 ∷ 2 ∷ []) (move 3 1 1 ∷ move 3 2 1 ∷ [])) (3 ∷ 2 ∷ 1 ∷ []) (figures 1 2 0)
+    ∷ best (dayOf 3 1 3 1 1 (2 ∷ 1 ∷ 2 ∷ []) (3 ∷ 1 ∷ 3 ∷ []) (move 2 1 2 ∷ [])) (3 ∷ 1 ∷ 2 ∷ []) (figures 1 2 3)
+    ∷ best (dayOf 3 2 2 1 0 (replicate 3 1) (2 ∷ 2 ∷ 1 ∷ []) (move 2 1 5 ∷ [])) (1 ∷ 2 ∷ 1 ∷ []) (figures 0 5 0)
+    ∷ best (dayOf 4 3 2 2 1 (replicate 4 1) (2 ∷ 2 ∷ 2 ∷ 1 ∷ []) (move 1 2 1 ∷ move 2 1 2 ∷ move 4 1 2 ∷ move 4 3 2 ∷ [])) (1 ∷ 1 ∷ 2 ∷ 1 ∷ []) (figures 1 2 4)
     -- the limits of the head on both sides: trains and tracks 1 and 12, 0 and 13; slots 1 and 8, 0 and 9; weights 0 and 65535, 65536
     ∷ accepted (openDay 12 12 8 []) true
     ∷ accepted (openDay 1 1 1 []) true

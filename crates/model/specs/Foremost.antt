@@ -1,7 +1,7 @@
 -- Order 5 of document 02 in its own words: among plans of equal cost fewer revisits come first, then a smaller sum of slot numbers over all
 -- trains, and only then the set-number order. Of the allowed rows of least cost the best plan is just the one that is foremost so
--- (`best-foremost`, `foremost-best`). Neither `precedes` nor the order of a key before an order stands in it. And what a yard sees of the
--- change: the plan of before costs the same (`same-cost`), and where no other row costs as little it is the plan still (`same-plan`).
+-- (`best-foremost`, `foremost-best`). Neither `precedes` nor the order of a key before an order stands in it. And whatever chose among the
+-- cheapest rows before, the plan costs the same (`same-cost`), and where there is one such row it is the plan (`same-plan`).
 -- Assumes nothing.
 use mathlib.Core.Path.{_≡_}
 use mathlib.Core.Logic.{⊎-elim}
@@ -13,6 +13,10 @@ use lib.Dec.{T}
 use Rattle.fold.specs.Fold.{sum}
 use Rattle.model.specs.Model.{Yard, received, slotOf, revisits, outcome, cost, allowed, slotMask, byKey, slotTotal, bySets, precedes, Best}
 use Rattle.model.specs.Order.{key-not, key-cases, lower-not, not-lower}
+
+-- an allowed row, and none is cheaper
+abbrev pub Cheapest : Yard → List ℕ → Type 0
+Cheapest y row = T (allowed y row) × ((other : List ℕ) → T (allowed y other) → cost y row ≤ cost y other)
 
 -- `other` is an allowed row that costs as much as `row`
 abbrev pub AsCheap : Yard → List ℕ → List ℕ → Type 0
@@ -61,12 +65,12 @@ module _ (y : Yard) (row : List ℕ) where
       second : (other : List ℕ) → AsCheap y row other → NoFewerRevisits y other row → (total row ≤ total other) × (total other ≡ total row → T (bySets y other row) → ⊥)
       second other o f = let l = first other o .0 in key-not total (bySets y) other row (first other o .1 (omega arith))
 
-  pub foremost-best : T (allowed y row) → ((other : List ℕ) → T (allowed y other) → cost y row ≤ cost y other) → Foremost y row → Best y row
+  pub foremost-best : Cheapest y row → Foremost y row → Best y row
   unfolding precedes bySets slotTotal
-  foremost-best a least f =
+  foremost-best c f =
       record {
-        isAllowed = a;
-        least = least;
+        isAllowed = c .0;
+        least = c .1;
         first = λ other h e t.
             let o : AsCheap y row other = (h, e) in
             ⊎-elim (λ l. omega (arith, f .revisits other o))
@@ -82,15 +86,9 @@ module _ (y : Yard) (row : List ℕ) where
 
 -- ---- before order 5
 
--- the best plan by 01's order alone
-pub record BestBefore (y : Yard) (row : List ℕ) : Type 0 where
-  pub isAllowed : T (allowed y row)
-  pub least : (other : List ℕ) → T (allowed y other) → cost y row ≤ cost y other
-  pub first : (other : List ℕ) → T (allowed y other) → cost y other ≡ cost y row → NoLargerSet y row other
-
-module _ (y : Yard) (row : List ℕ) (before : BestBefore y row) where
+module _ (y : Yard) (row : List ℕ) (c : Cheapest y row) where
   pub same-cost : (now : List ℕ) → Best y now → cost y now ≡ cost y row
-  same-cost now b = le-antisymm (b .least row (before .isAllowed)) (before .least now (b .isAllowed))
+  same-cost now b = le-antisymm (b .least row (c .0)) (c .1 now (b .isAllowed))
 
   pub same-plan : ((other : List ℕ) → AsCheap y row other → other ≡ row) → (now : List ℕ) → Best y now → now ≡ row
   same-plan only now b = only now (b .isAllowed, same-cost now b)
