@@ -6,7 +6,7 @@ use mathlib.Core.List.{List, [], _∷_}
 use Prim.Native.Nat.{ℕ, zero, suc, _-_, _*_, _≤_, _<_}
 use native.Mathlib.Nat.{le-trans}
 use native.Mathlib.Omega.{arith}
-use lib.Dec.{T, ltb, leb, eqb, leb→le, ltb→lt, eqb→eq}
+use lib.Dec.{T, ltb, leb, eqb, leb→le, le→leb, ltb→lt, eqb→eq}
 use lib.ListN.{length, getD}
 use borrow.Author.Tests.{lt-ltb, eq-eqb}
 use Rattle.fold.specs.Test.{of-true, both, both-of}
@@ -33,6 +33,14 @@ within-is (r ∷ ranges) (v ∷ values) t =
     let (a, b) = both-of (between r v) (within ranges values) t in
     let (lo, hi) = both-of (leb (r .least) v) (leb v (r .greatest)) a in
     ((leb→le (r .least) v lo, leb→le v (r .greatest) hi), within-is ranges values b)
+
+pub is-within : (ranges : List Range) (values : List ℕ) → Within ranges values → T (within ranges values)
+unfolding within
+is-within [] values w = tt
+is-within (r ∷ ranges) [] w = absurd w
+is-within (r ∷ ranges) (v ∷ values) w =
+    both (between r v) (within ranges values)
+    (both (leb (r .least) v) (leb v (r .greatest)) (le→leb (r .least) v (w .0 .0)) (le→leb v (r .greatest) (w .0 .1))) (is-within ranges values (w .1))
 
 -- the number before a later position, as the code reads it
 pub number-before : (numbers : List ℕ) (i : ℕ) → (i ≡ 0 → ⊥) → getD numbers (i - 1) 0 ≡ numberBefore numbers i

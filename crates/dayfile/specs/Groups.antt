@@ -16,10 +16,11 @@ use Rattle.fold.specs.Test.{of-true, both, both-of, left, not-of}
 use Rattle.fold.specs.Listed.{joined}
 use Rattle.model.specs.Model.{groupOf}
 use Rattle.day.specs.Sound.{within, groupRanges, groupSound}
+use Rattle.day.specs.SoundLaws.{is-within}
 use Rattle.day.specs.declared.Limits.{Limits}
 use Rattle.dayfile.specs.Reading.{field1, field2, position, isListed, pairAfter, storedGroups}
 use Rattle.dayfile.specs.Writing.{memberRows, groupRows}
-use Rattle.dayfile.specs.Sections.{FineGroups, is-within, some-group}
+use Rattle.dayfile.specs.Sections.{FineGroups, some-group}
 use Rattle.dayfile.specs.Trains.{Rising, InLimits}
 use Rattle.dayfile.specs.Places.{number-there, position-same, less-number, less-position, position-there, listed-more, more-listed, later-place, later-pair}
 use Rattle.dayfile.specs.Stored.{In, in-joined, joined-in, Rise, rise-wider, rise-joined, rise-from, zero-sound, Made, Holds, rows-same, table-back, stored-holds}

@@ -15,11 +15,11 @@ use borrow.Author.Tests.{eq-eqb, ne-eqb, lt-ltb}
 use Rattle.fold.specs.Test.{of-true, both, both-of, left, not-of}
 use Rattle.fold.specs.Listed.{joined}
 use Rattle.day.specs.Sound.{within, moveRanges, pairSound}
-use Rattle.day.specs.SoundLaws.{within-is}
+use Rattle.day.specs.SoundLaws.{within-is, is-within}
 use Rattle.day.specs.declared.Limits.{Limits}
 use Rattle.dayfile.specs.Reading.{field1, field2, field3, position, isListed, pairAfter, placeOf, storedMoves}
 use Rattle.dayfile.specs.Writing.{moveRow, moveRows}
-use Rattle.dayfile.specs.Sections.{FineMoves, is-within}
+use Rattle.dayfile.specs.Sections.{FineMoves}
 use Rattle.dayfile.specs.Trains.{Rising, InLimits}
 use Rattle.dayfile.specs.Places.{Listed, position-same, position-there, place-inside, place-row, after-place, place-after}
 use Rattle.dayfile.specs.Stored.{In, in-joined, joined-in, Rise, rise-joined, rise-one, zero-sound, Made, Holds, rows-same, table-back, stored-holds}

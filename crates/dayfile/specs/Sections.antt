@@ -7,13 +7,12 @@ use mathlib.Core.List.{List, [], _∷_, _++_, append-assoc}
 use Prim.Native.Nat.{ℕ, zero, suc, _+_, _≤_}
 use native.Mathlib.Nat.{le-trans}
 use native.Mathlib.Omega.{arith}
-use lib.Dec.{T, leb, le→leb}
+use lib.Dec.{T}
 use lib.ListN.{length, length-append}
 use borrow.Author.Tests.{lt-ltb}
-use Rattle.fold.specs.Test.{both}
 use Rattle.day.specs.Answer.{Answer, gives, onGiven, Check, must, checked}
 use Rattle.day.specs.AnswerLaws.{AllHold, checked-gives, given-then}
-use Rattle.day.specs.Sound.{Range, between, within, trainRanges, moveRanges, groupRanges}
+use Rattle.day.specs.Sound.{Range, within, trainRanges, moveRanges, groupRanges}
 use Rattle.day.specs.SoundLaws.{Within, within-is}
 use Rattle.day.specs.declared.Limits.{Limits}
 use Rattle.lines.specs.Lines.{rowText, rowsText}
@@ -36,16 +35,6 @@ abbrev pub FineGroups : Limits → List ℕ → List ℕ → List ℕ → List (
 FineGroups l numbers taken before [] = Unit
 FineGroups l numbers taken before (r ∷ rows) =
     (length r ≡ 2) × AllHold (groupChecks l numbers taken before 0 r) × FineGroups l numbers (field2 r ∷ taken) r rows
-
--- ---- values in their ranges pass the test of them
-
-pub is-within : (ranges : List Range) (values : List ℕ) → Within ranges values → T (within ranges values)
-unfolding within
-is-within [] values w = tt
-is-within (r ∷ ranges) [] w = absurd w
-is-within (r ∷ ranges) (v ∷ values) w =
-    both (between r v) (within ranges values)
-    (both (leb (r .least) v) (leb v (r .greatest)) (le→leb (r .least) v (w .0 .0)) (le→leb v (r .greatest) (w .0 .1))) (is-within ranges values (w .1))
 
 abbrev pub ShortRanges : List Range → Type 0
 ShortRanges [] = Unit

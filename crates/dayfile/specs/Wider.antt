@@ -18,11 +18,10 @@ use Rattle.model.specs.Model.{Yard, groupOf}
 use Rattle.model.specs.Groups.{NoGroups}
 use Rattle.day.specs.Answer.{gives}
 use Rattle.day.specs.Sound.{dayLimits, within, headRanges, trainRanges, trainRow, numberBefore, trainSound, unused, positionSound, groupSound, pairSound, receiverSound, shaped, sound}
-use Rattle.day.specs.SoundLaws.{within-is, sound-tests, tests-sound, sound-is}
+use Rattle.day.specs.SoundLaws.{within-is, is-within, sound-tests, tests-sound, sound-is}
 use Rattle.day.specs.declared.Limits.{Limits}
 use Rattle.dayfile.specs.Reading.{readDay}
 use Rattle.dayfile.specs.Writing.{memberRows, groupRows, fileOf, dayText, Short}
-use Rattle.dayfile.specs.Sections.{is-within}
 use Rattle.dayfile.specs.RoundTrip.{write-read, read-sound, read-write, day-short}
 
 -- the same limits but for train numbers, which go up to k, and groups, which go up to j

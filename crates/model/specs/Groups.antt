@@ -9,7 +9,8 @@ use Prim.Native.Nat.{ℕ, zero, suc, _≤_, _<_}
 use native.Mathlib.Omega.{arith}
 use lib.Dec.{T, ltb, eqb, lt→ltb, ltb→lt, eqb→eq, not-T}
 use borrow.Author.Tests.{eq-eqb}
-use Rattle.fold.specs.Test.{of-true, is-true, is-false, test, same-test, both, both-of, not-of}
+use Rattle.fold.specs.Test.{of-true, is-true, is-false, same-test, both, both-of, not-of}
+use Rattle.fold.specs.Counting.{same-or}
 use Rattle.fold.specs.Fold.{some, some-at, some-of, each-at, each-i, lowest, lowest-passes, lowest-before}
 use Rattle.model.specs.Model.{Yard, slotOf, groupOf, fitting, grouped, apart, kept, parted, allowed}
 use Rattle.model.specs.Rows.{allowed-fits, fits-allowed}
@@ -52,12 +53,8 @@ module _ (n : ℕ) (groups row : List ℕ) where
   pub kept-of : T (kept n groups row) → (i j : ℕ) → i < n → j < n → T (grouped groups i j) → slotOf row i ≡ slotOf row j
   unfolding kept
   kept-of t i j h l g =
-      ⊎-elim (λ e. eqb→eq (slotOf row i) (slotOf row j) e)
-      (λ d.
-      absurd
-      (not-of (apart groups row i j) (each-at n _ (each-at n _ t i h) j l)
-      (apart-by groups i j row g (λ e. d (of-true (eq-eqb (slotOf row i) (slotOf row j) e))))))
-      (test (eqb (slotOf row i) (slotOf row j)))
+      ⊎-elim (λ e. e) (λ d. absurd (not-of (apart groups row i j) (each-at n _ (each-at n _ t i h) j l) (apart-by groups i j row g d)))
+      (same-or (slotOf row i) (slotOf row j))
 
   pub kept-by : ((i j : ℕ) → i < n → j < n → T (grouped groups i j) → slotOf row i ≡ slotOf row j) → T (kept n groups row)
   unfolding kept
@@ -97,11 +94,8 @@ module _ (n : ℕ) (groups row : List ℕ) where
   unparted-keeps k low h =
       is-true (kept n groups row)
       (kept-by (λ i j a b m.
-      ⊎-elim (λ e. eqb→eq (slotOf row i) (slotOf row j) e)
-      (λ d.
-      absurd (none (groupOf groups i) (grouped-of groups i j m .0) (low i a)
-      (parted-by i j a b m (λ e. d (of-true (eq-eqb (slotOf row i) (slotOf row j) e))))))
-      (test (eqb (slotOf row i) (slotOf row j)))))
+      ⊎-elim (λ e. e) (λ d. absurd (none (groupOf groups i) (grouped-of groups i j m .0) (low i a) (parted-by i j a b m d)))
+      (same-or (slotOf row i) (slotOf row j))))
     where
       none : (g : ℕ) → 0 < g → g ≤ k → T (parted n groups row g) → ⊥
       none zero a b p = omega arith
