@@ -1,5 +1,5 @@
 -- The key of a row (order 5 of document 02): cost, revisits and the sum of slot numbers are sums over the slots of what a stage sees, so a
--- row's worth is the three packed into one number (`row-key`), which orders rows as the three do, one after the other (`key-cost`), and
+-- row's worth is the three packed into one number (`row-key`), which orders rows as the three do, one after the other (BestPlan.antt), and
 -- stays below `keysBelow` (`key-low`). The sum of slot numbers is the sum over the slots of how many trains remain before each
 -- (`slots-by-slot`): a train remains before as many slots as its slot's number says.
 -- Assumes nothing.

@@ -1,6 +1,6 @@
 -- Behind the loops over stages and sets, solved for what can remain of the day's trains: where a value below `inf` stands for all trains, it
--- is that of the best plan, to which the choices lead (`solution-best`); where none does, no row of 32 bits' cost is allowed
--- (`solution-none`).
+-- is that of the best plan, to which the choices lead (`solution-best`); where none does, and every cost fits 32 bits, no row is
+-- allowed (`solution-none`).
 -- Assumes nothing.
 use mathlib.Core.Path.{_≡_, ap, subst}
 use mathlib.Core.List.{List}

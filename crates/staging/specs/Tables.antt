@@ -51,7 +51,7 @@ slotCost y t r s = y .revisit * lateTrains y r s + y .split * fromOutside (y .tr
 abbrev pub waiting : Contribution
 waiting t r s = ones r
 
--- what a plan of 12 trains and 8 slots stays below: 12 revisits, and slot numbers that sum to 96
+-- what revisits, and what sums of slot numbers, stay below: with 12 trains and 8 slots they are at most 12 and 96
 abbrev pub revisitsBelow : ℕ
 revisitsBelow = 16
 
