@@ -45,7 +45,7 @@ pub const P1_TRAINS: &[&str] = &["1 1 2", "2 1 2", "3 1 2", "4 1 2"];
 pub const P1_MOVES: &[&str] = &["1 4 1", "3 1 3", "3 4 5", "4 2 6", "4 3 1"];
 const P6_TRAINS: &[&str] = &["1 1 2", "2 1 2", "3 1 2", "4 2 2"];
 
-const fn known(
+pub const fn known(
     name: &'static str,
     head: &'static str,
     trains: &'static [&'static str],

@@ -6,7 +6,7 @@ use crate::known::{
     BaselineDay, BaselineOutcome, Known, KnownDay, P1_HEAD, P1_MOVES, P1_TRAINS, TWO,
 };
 
-const fn grouped(
+pub const fn grouped(
     name: &'static str,
     head: &'static str,
     trains: &'static [&'static str],

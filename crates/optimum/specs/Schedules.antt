@@ -3,14 +3,13 @@
 -- Schedules of equal value are compared by `Ahead`: at the lowest stage where they differ, the one with the larger set comes first.
 -- Assumes nothing.
 use mathlib.Core.Path.{_≡_, refl, sym, ap, ap₂, _∙_, subst}
-use mathlib.Core.Bool.{Bool, _&&_}
+use mathlib.Core.Bool.{Bool}
 use mathlib.Core.List.{List, [], _∷_}
 use Prim.Native.Nat.{ℕ, zero, suc, _+_, _-_, _≤_, _<_}
 use native.Mathlib.Omega.{arith}
 use native.Mathlib.Nat.{le-of-suc-le-suc, le-antisymm}
-use lib.Dec.{T, ltb, eqb, ltb→lt, eqb→eq}
-use Rattle.fold.specs.Test.{both-of}
-use Rattle.fold.specs.Fold.{sum, some, each, below-suc, some-of, each-at}
+use lib.Dec.{T}
+use Rattle.fold.specs.Fold.{sum, below-suc}
 use Rattle.fold.specs.Sums.{sum-ext, sum-cons}
 use Rattle.fold.specs.Listed.{listed}
 use Rattle.sets.specs.Subset.{Sub}
@@ -55,13 +54,6 @@ ahead-same zero f g a b t l = absurd (omega arith)
 ahead-same (suc k) f g a b t l =
     let same : (u : ℕ) → u < k → f u ≡ g u = ahead-same k f g (λ u m. a u (omega arith)) (λ u m. b u (omega arith)) in
     below-suc (λ u. f u ≡ g u) k same (le-antisymm (b k (omega arith) (λ u m. sym (same u m))) (a k (omega arith) same)) t l
-
--- the same as a test: it is not so that f is the smaller at the lowest index where the two differ
-pub ahead-not-lower : (k : ℕ) (f g : ℕ → ℕ) → Ahead k f g → T (some k λ t. ltb (f t) (g t) && each t λ u. eqb (f u) (g u)) → ⊥
-ahead-not-lower k f g a h =
-    let (t, l, q) = some-of k (λ t. ltb (f t) (g t) && each t λ u. eqb (f u) (g u)) h in
-    let (less, same) = both-of (ltb (f t) (g t)) (each t λ u. eqb (f u) (g u)) q in
-    omega (arith, ltb→lt (f t) (g t) less, a t l (λ u m. eqb→eq (f u) (g u) (each-at t (λ u. eqb (f u) (g u)) same u m)))
 
 -- ---- a schedule by what remains: at stage t + j the set f j is chosen from g j
 

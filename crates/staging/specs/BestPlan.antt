@@ -7,9 +7,9 @@ use mathlib.Core.List.{List}
 use Prim.Native.Nat.{ℕ, suc, _≤_, _<_}
 use native.Mathlib.Omega.{arith}
 use lib.Dec.{T}
-use Rattle.model.specs.Model.{Yard, received, revisits, slotMask, cost, allowed, lower, byKey, slotTotal, bySets, precedes, Best}
-use Rattle.model.specs.Order.{key-cases}
-use Rattle.optimum.specs.Schedules.{Ahead, ahead-not-lower}
+use Rattle.model.specs.Model.{Yard, received, revisits, slotMask, cost, allowed, byKey, slotTotal, bySets, precedes, Best}
+use Rattle.model.specs.Order.{key-cases, not-lower}
+use Rattle.optimum.specs.Schedules.{Ahead}
 use Rattle.optimum.specs.Rows.{stageSet, worth, BestRow}
 use Rattle.staging.specs.Tables.{servable, stageKey}
 use Rattle.staging.specs.AllowedRows.{DayRow, allowed-row, row-allowed}
@@ -28,8 +28,8 @@ module _ (y : Yard) where
   -- a row whose sets are ahead is not preceded by set numbers
   ahead-sets : (row other : List ℕ) → Ahead (y .slots) (λ j. stageSet (y .trains) row (suc j)) (λ j. stageSet (y .trains) other (suc j))
       → T (bySets y other row) → ⊥
-  unfolding bySets lower slotMask
-  ahead-sets row other = ahead-not-lower (y .slots) (λ j. slotMask (y .trains) row (suc j)) (λ j. slotMask (y .trains) other (suc j))
+  unfolding bySets slotMask
+  ahead-sets row other = not-lower (y .slots) (λ j. slotMask (y .trains) row (suc j)) (λ j. slotMask (y .trains) other (suc j))
 
   module _ (few : Few y) (row : List ℕ) (b : BestRow (servable y) (stageKey y) (y .trains) (y .slots) row) where
     no-less : (other : List ℕ) → DayRow y other → rowKey y row ≤ rowKey y other

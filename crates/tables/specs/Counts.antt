@@ -1,11 +1,11 @@
--- How many trains a set has: the sets with train k highest come from those below, and a bound. With the loop that fills the table.
+-- How many trains a set has: the sets with train k highest come from those below. With the loop that fills the table.
 -- Assumes nothing.
 use mathlib.Core.Path.{_≡_, refl, sym, ap, _∙_}
 use mathlib.Core.List.{List}
-use Prim.Native.Nat.{ℕ, _+_, _^_, _≤_, _<_}
+use Prim.Native.Nat.{ℕ, _+_, _^_, _<_}
 use native.Mathlib.Nat.{add-comm, one-mul}
 use native.Mathlib.Omega.{arith}
-use lib.Count.{ones, ones-cat, ones-le}
+use lib.Count.{ones, ones-cat}
 use lib.ListN.{length, set}
 use Rattle.tables.specs.Entries.{withTrain}
 use Rattle.tables.specs.Filled.{Filled, Added, filled-none, filled-next, added-filled}
@@ -29,7 +29,3 @@ pub count-next : {b₀ b c : List ℕ} (k size : ℕ) → Filled ones size b₀ 
 count-next k size h e d =
     added-filled h d
     (λ m q. ap (λ x. x + 1) (h .all m q) ∙ sym (ones-join k m (omega arith)) ∙ ap (λ s. ones (s + m)) (sym e))
-
--- a set of 12 trains has at most 12
-pub count-most : (m : ℕ) → m < 4096 → ones m ≤ 12
-count-most m l = ones-le 12 m l

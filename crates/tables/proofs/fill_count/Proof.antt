@@ -7,13 +7,13 @@ use borrow.Author.Needs.{needs}
 use native.Mathlib.Omega.{arith}
 use native.Mathlib.Numerals.{add-one}
 use native.Mathlib.Nat.{pow-suc}
-use lib.Count.{ones}
+use lib.Count.{ones, ones-le}
 use lib.ListN.{length, set}
 use lib.Pow.{pow-pos}
 use Rattle.fold.specs.Fold.{at-end}
 use Rattle.tables.specs.Filled.{Filled, filled-end, filled-here, filled-since}
 use Rattle.tables.specs.Needing.{sets-fit}
-use Rattle.tables.specs.Counts.{count-first, count-next, count-most}
+use Rattle.tables.specs.Counts.{count-first, count-next}
 use Rattle.tables.proofs.fill_count.Statement.{statement}
 use Rattle.tables.proofs.fill_count.Tie as tie
 
@@ -48,7 +48,7 @@ add-train-requires c κs =
     let room = fits (c .before) in (
       room .0,
       room .1,
-      λ m q. omega (arith, l .inv .2 .all m q, count-most m (omega arith)),
+      λ m q. omega (arith, l .inv .2 .all m q, ones-le 12 m (omega arith)),
     )
 
 add-size : tie.Need-add-size Inv-loop μ-loop
