@@ -241,7 +241,7 @@ static const char *expected_start(enum group group)
 {
     if (group == OVERBOOKED)
         return "refusal first last trains\n";
-    return group == UNKEPT ? "refusal line\n16 0\n" : "revisits splits cost\n";
+    return group == UNKEPT ? "refusal line\n16 0\n" : "revisits splits direct cost\n";
 }
 
 static void check_day(const struct day *d)

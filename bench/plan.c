@@ -13,7 +13,7 @@
 #define ANSWER c_answer
 #endif
 
-enum { WIDTH = 12, SETS = 4096, SLOTS = 8, ANSWER_BYTES = 148 };
+enum { WIDTH = 12, SETS = 4096, SLOTS = 8, ANSWER_BYTES = 161 };
 
 #define NONE UINT64_MAX
 #define BARRED UINT32_MAX
@@ -41,7 +41,7 @@ struct day {
 };
 
 struct value {
-    uint64_t revisits, splits, cost;
+    uint64_t revisits, splits, direct, cost;
 };
 
 /* ---- soundness, as day::is_sound */
@@ -345,6 +345,7 @@ static struct value value_slots(const struct day *d, const uint8_t *row)
             uint8_t boxes = d->boxes[i * WIDTH + j];
             late |= boxes > 0 && row[i] < row[j];
             v.splits += row[i] == row[j] ? 0 : boxes;
+            v.direct += row[i] == row[j] ? boxes : 0;
         }
         v.revisits += late;
     }
@@ -480,9 +481,10 @@ static uint8_t *put_unkept(uint8_t *at)
 
 static uint8_t *put_plan(uint8_t *at, const struct day *d, const uint8_t *row, struct value v)
 {
-    at = put_bytes(at, "revisits splits cost\n");
+    at = put_bytes(at, "revisits splits direct cost\n");
     at = put_value(at, v.revisits, ' ');
     at = put_value(at, v.splits, ' ');
+    at = put_value(at, v.direct, ' ');
     at = put_value(at, v.cost, '\n');
     at = put_bytes(at, "train slot\n");
     for (size_t i = 0; i < d->trains; i++) {

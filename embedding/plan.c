@@ -33,7 +33,7 @@ static int read_file(const char *name, uint8_t *text, size_t *length)
 
 /* Prints a refusal in words: of reading (1 to 7, 15) its line, of planning the stretch of slots that is overbooked, or that there is none
  * and the groups are what cannot be kept. */
-static void print_refusal(uint64_t refusal, const uint64_t numbers[3])
+static void print_refusal(uint64_t refusal, const uint64_t numbers[YARD_NUMBERS])
 {
     if (refusal == 9)
         printf("no plan: %" PRIu64 " trains are bound to the slots %" PRIu64 " to %" PRIu64 "\n", numbers[2], numbers[0], numbers[1]);
@@ -43,16 +43,17 @@ static void print_refusal(uint64_t refusal, const uint64_t numbers[3])
         printf("no day file: refusal %" PRIu64 ", line %" PRIu64 "\n", refusal, numbers[0]);
 }
 
-static void print_numbers(const char *name, const uint64_t numbers[3])
+static void print_numbers(const char *name, const uint64_t numbers[YARD_NUMBERS])
 {
-    printf("%s: revisits %" PRIu64 ", splits %" PRIu64 ", cost %" PRIu64 "\n", name, numbers[0], numbers[1], numbers[2]);
+    printf("%s: revisits %" PRIu64 ", splits %" PRIu64 ", direct %" PRIu64 ", cost %" PRIu64 "\n", name, numbers[0], numbers[1], numbers[2],
+           numbers[3]);
 }
 
 int main(int argc, char **argv)
 {
     static uint8_t text[MOST_TEXT];
     uint8_t row[YARD_MOST_TRAINS];
-    uint64_t numbers[3];
+    uint64_t numbers[YARD_NUMBERS];
     size_t length, trains;
 
     if (yard_version() != YARD_VERSION) {
@@ -66,7 +67,7 @@ int main(int argc, char **argv)
     if (!read_file(argv[1], text, &length))
         return 2;
 
-    uint64_t refusal = yard_plan(text, length, row, sizeof row, numbers, 3, &trains);
+    uint64_t refusal = yard_plan(text, length, row, sizeof row, numbers, YARD_NUMBERS, &trains);
     if (refusal != 0) {
         print_refusal(refusal, numbers);
         return 1;
@@ -77,7 +78,7 @@ int main(int argc, char **argv)
 
     /* a row of one's own: 0 with its numbers, or 12, 13 or 17 with the position, the slot or the group at fault */
     memset(row, 1, trains);
-    refusal = yard_value(text, length, row, trains, numbers, 3);
+    refusal = yard_value(text, length, row, trains, numbers, YARD_NUMBERS);
     if (refusal == 0)
         print_numbers("all in slot 1", numbers);
     else

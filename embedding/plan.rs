@@ -36,12 +36,12 @@ mod sys {
 /// A refusal: its number and what it carries.
 struct Refusal {
     number: u64,
-    carries: [u64; 3],
+    carries: [u64; NUMBERS],
 }
 
 impl std::fmt::Display for Refusal {
     fn fmt(&self, words: &mut std::fmt::Formatter) -> std::fmt::Result {
-        let [first, last, trains] = self.carries;
+        let [first, last, trains, _] = self.carries;
         match self.number {
             1..=7 | 15 => write!(words, "no day file: refusal {}, line {first}", self.number),
             9 => write!(words, "no plan: {trains} trains are bound to the slots {first} to {last}"),
@@ -52,8 +52,10 @@ impl std::fmt::Display for Refusal {
     }
 }
 
-/// Bytes that suffice for every answer, YARD_ANSWER_BYTES of yard.h, and trains that a day has at most.
-const ANSWER_BYTES: usize = 148;
+/// YARD_ANSWER_BYTES, YARD_NUMBERS and YARD_MOST_TRAINS of yard.h: bytes that suffice for every answer, numbers of a row, trains that a day
+/// has at most.
+const ANSWER_BYTES: usize = 161;
+const NUMBERS: usize = 4;
 const MOST_TRAINS: usize = 12;
 
 /// What yard-plan prints for a text.
@@ -72,15 +74,15 @@ fn check(text: &[u8]) -> Result<(), Refusal> {
     let mut line = 0u64;
     match unsafe { sys::yard_check(text.as_ptr(), text.len(), &mut line) } {
         0 => Ok(()),
-        number => Err(Refusal { number, carries: [line, 0, 0] }),
+        number => Err(Refusal { number, carries: [line, 0, 0, 0] }),
     }
 }
 
 /// The slots of the plan, in the order of the day file.
 fn plan(text: &[u8]) -> Result<Vec<u8>, Refusal> {
-    let (mut row, mut numbers, mut trains) = (vec![0u8; MOST_TRAINS], [0u64; 3], 0usize);
-    let (slots, three) = (row.as_mut_ptr(), numbers.as_mut_ptr());
-    match unsafe { sys::yard_plan(text.as_ptr(), text.len(), slots, MOST_TRAINS, three, numbers.len(), &mut trains) } {
+    let (mut row, mut numbers, mut trains) = (vec![0u8; MOST_TRAINS], [0u64; NUMBERS], 0usize);
+    let (slots, four) = (row.as_mut_ptr(), numbers.as_mut_ptr());
+    match unsafe { sys::yard_plan(text.as_ptr(), text.len(), slots, MOST_TRAINS, four, numbers.len(), &mut trains) } {
         0 => {
             row.truncate(trains);
             Ok(row)
@@ -89,9 +91,9 @@ fn plan(text: &[u8]) -> Result<Vec<u8>, Refusal> {
     }
 }
 
-/// Revisits, split moves and cost of a row of slots.
-fn value(text: &[u8], row: &[u8]) -> Result<[u64; 3], Refusal> {
-    let mut numbers = [0u64; 3];
+/// Revisits, split moves, direct moves and cost of a row of slots.
+fn value(text: &[u8], row: &[u8]) -> Result<[u64; NUMBERS], Refusal> {
+    let mut numbers = [0u64; NUMBERS];
     let refusal = unsafe { sys::yard_value(text.as_ptr(), text.len(), row.as_ptr(), row.len(), numbers.as_mut_ptr(), numbers.len()) };
     match refusal {
         0 => Ok(numbers),

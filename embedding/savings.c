@@ -29,12 +29,12 @@ static void print_refusal(const char *name, uint64_t refusal, uint64_t carried)
 
 static void print_saving(const char *name, procedure *call, const uint8_t *text, size_t length)
 {
-    uint64_t numbers[3];
+    uint64_t numbers[YARD_NUMBERS];
     int64_t saving;
-    uint64_t refusal = call(text, length, numbers, 3, &saving);
+    uint64_t refusal = call(text, length, numbers, YARD_NUMBERS, &saving);
     if (refusal == 0)
-        printf("%s: revisits %" PRIu64 ", splits %" PRIu64 ", cost %" PRIu64 "; planning saves %" PRId64 "\n", name, numbers[0], numbers[1],
-               numbers[2], saving);
+        printf("%s: revisits %" PRIu64 ", splits %" PRIu64 ", direct %" PRIu64 ", cost %" PRIu64 "; planning saves %" PRId64 "\n", name,
+               numbers[0], numbers[1], numbers[2], numbers[3], saving);
     else
         print_refusal(name, refusal, numbers[0]);
 }

@@ -36,13 +36,17 @@ extern "C" {
 #endif
 
 /* The version of this interface. It changes when a size below or the meaning of a number does. yard_version() returns that of the library
- * that is linked: compare the two where header and library may come from different places. */
-#define YARD_VERSION 2
+ * that is linked: compare the two where header and library may come from different places.
+ * Since version 3 a row has four numbers, direct moves before the cost, and an answer up to 161 bytes. In version 2 it had three, the cost
+ * in third place, and 148 bytes sufficed. */
+#define YARD_VERSION 3
 
 uint64_t yard_version(void);
 
-/* Bytes of output that suffice for every answer; trains that a day has at most; words of the two work areas that suffice for every day. */
-#define YARD_ANSWER_BYTES 148
+/* Bytes of output that suffice for every answer; numbers of a row: revisits, split moves, direct moves, cost; trains that a day has at most;
+ * words of the two work areas that suffice for every day. */
+#define YARD_ANSWER_BYTES 161
+#define YARD_NUMBERS 4
 #define YARD_MOST_TRAINS 12
 #define YARD_COST_WORDS 4096
 #define YARD_CHOICE_WORDS 32768
@@ -64,12 +68,13 @@ uint64_t yard_answer(const uint8_t *text, size_t text_length, uint8_t *out, size
  * text, text_length        the day file. No byte of it changes.
  * row, row_length          room for the slot of each train; YARD_MOST_TRAINS bytes always suffice. Afterwards its first *trains bytes hold
  *                          the slots, in the order of the day file, counted from 1; bytes beyond stay as they were, after a refusal all.
- * numbers, numbers_length  room for at least three numbers. Afterwards the first three hold revisits, split moves and cost; after a
- *                          refusal what it carries, then zeros: 1 to 7 and 15 the line; 9 the first and last slot of the overbooked
- *                          stretch and the number of trains bound inside; 10 and 16 three zeros. Numbers beyond stay as they were.
+ * numbers, numbers_length  room for at least four numbers. Afterwards the first four hold revisits, split moves, direct moves and cost;
+ *                          after a refusal what it carries, then zeros: 1 to 7 and 15 the line; 9 the first and last slot of the
+ *                          overbooked stretch and the number of trains bound inside; 10 and 16 four zeros. Numbers beyond stay as
+ *                          they were. Split and direct moves add up to all boxes of the day.
  * trains                   holds the number of slots written afterwards: the number of trains of the day, or 0 after any refusal.
  *
- * Returns 0, or the refusal: 10 where numbers_length is below 3 (then no number has changed), else 1 to 7 or 15, else 10 where row_length
+ * Returns 0, or the refusal: 10 where numbers_length is below 4 (then no number has changed), else 1 to 7 or 15, else 10 where row_length
  * is below the number of trains, else 9 or 16. */
 uint64_t yard_plan(const uint8_t *text, size_t text_length, uint8_t *row, size_t row_length, uint64_t *numbers, size_t numbers_length,
                    size_t *trains);
@@ -80,7 +85,7 @@ uint64_t yard_plan(const uint8_t *text, size_t text_length, uint8_t *row, size_t
  * cost, cost_length        After 0, 9 and 16 the first 2^n words may hold anything; words beyond, and after any other refusal all, stay.
  * choice, choice_length    The same of the first T x 2^n words.
  *
- * Returns as yard_plan does, with 10 also where an area is too short: 10 where numbers_length is below 3, else 1 to 7 or 15, else 10
+ * Returns as yard_plan does, with 10 also where an area is too short: 10 where numbers_length is below 4, else 1 to 7 or 15, else 10
  * where an area or the row is too short, else 9 or 16. */
 uint64_t yard_plan_in_workspace(const uint8_t *text, size_t text_length, uint64_t *cost, size_t cost_length, uint16_t *choice,
                                 size_t choice_length, uint8_t *row, size_t row_length, uint64_t *numbers, size_t numbers_length,
@@ -98,16 +103,16 @@ uint64_t yard_check(const uint8_t *text, size_t text_length, uint64_t *line);
  *
  * text, text_length        the day file. No byte of it changes.
  * row, row_length          the slot of each train, in the order of the day file, slots counted from 1. No byte of it changes.
- * numbers, numbers_length  room for at least three numbers. Afterwards the first three hold revisits, split moves and cost; after a
- *                          refusal what it carries, then zeros: 1 to 7 and 15 the line, 11 three zeros, 12 the lowest position outside
- *                          its window, 13 the lowest slot with too many trains, both counted from 1, 17 the lowest parted group.
- *                          Numbers beyond stay as they were.
+ * numbers, numbers_length  room for at least four numbers. Afterwards the first four hold revisits, split moves, direct moves and cost;
+ *                          after a refusal what it carries, then zeros: 1 to 7 and 15 the line, 11 four zeros, 12 the lowest position
+ *                          outside its window, 13 the lowest slot with too many trains, both counted from 1, 17 the lowest parted
+ *                          group. Numbers beyond stay as they were.
  *
- * Returns 0, or the refusal: 10 where numbers_length is below 3 (then no number has changed), else 1 to 7 or 15, else 11, 12, 13
+ * Returns 0, or the refusal: 10 where numbers_length is below 4 (then no number has changed), else 1 to 7 or 15, else 11, 12, 13
  * or 17. */
 uint64_t yard_value(const uint8_t *text, size_t text_length, const uint8_t *row, size_t row_length, uint64_t *numbers, size_t numbers_length);
 
-/* What planning saves on the day of a text, against one of two simple procedures: the three numbers of the procedure's row of slots, and
+/* What planning saves on the day of a text, against one of two simple procedures: the four numbers of the procedure's row of slots, and
  * its cost less the planned cost. No saving is below zero.
  *
  * First come, first served: the trains in the order of the day file each take the earliest slot in their window with a track free.
@@ -116,14 +121,14 @@ uint64_t yard_value(const uint8_t *text, size_t text_length, const uint8_t *row,
  * has no slot yet, and the split weight for each box from a supplier that is not in this slot. Neither looks at groups.
  *
  * text, text_length        the day file. No byte of it changes.
- * numbers, numbers_length  room for at least three numbers. Afterwards the first three hold revisits, split moves and cost of the
- *                          procedure's row; after a refusal what it carries, then zeros: 1 to 7 and 15 the line; 9 the first and last
- *                          slot of the overbooked stretch and the number of trains bound inside; 16 three zeros; 14 the lowest position
- *                          that is left without a slot, counted from 1, or 0 where each train has a slot and a group is parted.
- *                          Numbers beyond stay as they were.
+ * numbers, numbers_length  room for at least four numbers. Afterwards the first four hold revisits, split moves, direct moves and cost of
+ *                          the procedure's row; after a refusal what it carries, then zeros: 1 to 7 and 15 the line; 9 the first and
+ *                          last slot of the overbooked stretch and the number of trains bound inside; 16 four zeros; 14 the lowest
+ *                          position that is left without a slot, counted from 1, or 0 where each train has a slot and a group is
+ *                          parted. Numbers beyond stay as they were.
  * saving                   holds the saving afterwards, 0 after any refusal.
  *
- * Each returns 0, or the refusal: 10 where numbers_length is below 3 (then no number has changed), else 1 to 7 or 15, else 9 or 16,
+ * Each returns 0, or the refusal: 10 where numbers_length is below 4 (then no number has changed), else 1 to 7 or 15, else 9 or 16,
  * else 14. A day with 14 has a plan. */
 uint64_t yard_first_come_first_served(const uint8_t *text, size_t text_length, uint64_t *numbers, size_t numbers_length, int64_t *saving);
 uint64_t yard_myopic(const uint8_t *text, size_t text_length, uint64_t *numbers, size_t numbers_length, int64_t *saving);

@@ -1,17 +1,15 @@
 //! Mode baselines: the library's two baseline calls on known, drawn, crowded,
-//! grouped and damaged days, and on special texts.
+//! grouped and damaged days, on days with direct moves, and on special texts.
 
 use crate::damage::draw_damaged;
 use crate::day_file::write_day;
 use crate::draw::{draw_crowded, draw_day, draw_grouped, Random, DAMAGED_MOST};
-use crate::known::BASELINE_DAYS;
-use crate::known_sets::GROUPED_BASELINE_DAYS;
 use crate::misreadings::{passed_boxes_left_out, passed_leave};
 use crate::model::Day;
 use crate::procedures::{myopic, myopic_by, Select, Slots};
 use crate::reports::Run;
 use crate::special::special_texts;
-use crate::texts::known_texts;
+use crate::texts::{direct_texts, hand_made_days, known_texts};
 
 const SOUND_DAYS: usize = 4000;
 const CROWDED_DAYS: usize = 1500;
@@ -34,7 +32,7 @@ fn known_group(run: &mut Run) {
     for (which, text) in known_texts() {
         run.judge(&which, &text);
     }
-    for day in BASELINE_DAYS.iter().chain(&GROUPED_BASELINE_DAYS) {
+    for day in hand_made_days() {
         run.judge(day.name, &day.text());
     }
 }
@@ -62,6 +60,13 @@ fn grouped_group(run: &mut Run) {
     for seed in (GROUPED_SEED..).take(GROUPED_DAYS) {
         let day = draw_grouped(&mut Random(seed), CROWDED_MOST);
         run.judge(&format!("seed {seed}"), &write_day(&day));
+    }
+}
+
+fn direct_group(run: &mut Run) {
+    run.begin("direct");
+    for (which, text) in direct_texts() {
+        run.judge(&which, &text);
     }
 }
 
@@ -108,6 +113,7 @@ pub fn baselines() -> bool {
     sound_group(&mut run);
     crowded_group(&mut run);
     grouped_group(&mut run);
+    direct_group(&mut run);
     passed_group(&mut run);
     damaged_group(&mut run);
     special_group(&mut run);

@@ -1,18 +1,20 @@
 //! yard_plan: slots and numbers of the plan, or the first of its refusals: 10
 //! for the numbers, 1 to 7 or 15, 10 for the row, 9 or 16.
 
+use crate::boxes::add_up;
 use crate::case::{unless_too_few, Case, Outcome, KINDS};
 use crate::header::MOST_TRAINS;
 use crate::lent::{lent_text, returned, Lent, Marks};
+use crate::miscountings::{direct_of, MISCOUNTINGS, OTHERS};
 use crate::misplannings::MISPLANNINGS;
-use crate::model::Day;
-use crate::plan::{overbooked, Interval};
+use crate::model::{Day, NUMBERS};
+use crate::plan::{overbooked, Interval, Plan};
 use crate::rotation::{chosen, supposed};
 use crate::seen::Seen;
 use crate::sets::has_groups;
 use crate::sys;
 
-/// Days with groups and no more assignments are planned by each mistake too.
+/// Days of no more assignments are planned by each mistake too.
 const MISPLANNED_MOST: usize = 2000;
 
 /// The lengths of row and numbers, for a day of so many trains.
@@ -29,24 +31,25 @@ const fn lending(name: &'static str, row: fn(usize) -> usize, numbers: usize) ->
 /// With these the day is planned. A length of 256 has no low bits.
 #[rustfmt::skip]
 const SUFFICIENT: [Lending; 5] = [
-    lending("row n", |n| n, 3),
-    lending("row n, 5 numbers", |n| n, 5),
-    lending("row n + 1", |n| n + 1, 3),
+    lending("row n", |n| n, NUMBERS),
+    lending("row n, 6 numbers", |n| n, 6),
+    lending("row n + 1", |n| n + 1, NUMBERS),
     lending("row YARD_MOST_TRAINS, 5 numbers", |_| MOST_TRAINS, 5),
     lending("row 256, 256 numbers", |_| 256, 256),
 ];
 
 #[rustfmt::skip]
-const SHORT: [Lending; 9] = [
-    lending("row n - 1", |n| n - 1, 3),
-    lending("row n - 1, 5 numbers", |n| n - 1, 5),
-    lending("no row", |_| 0, 3),
+const SHORT: [Lending; 10] = [
+    lending("row n - 1", |n| n - 1, NUMBERS),
+    lending("row n - 1, 6 numbers", |n| n - 1, 6),
+    lending("no row", |_| 0, NUMBERS),
     lending("no row, 5 numbers", |_| 0, 5),
     lending("row n, no number", |n| n, 0),
     lending("row n, 1 number", |n| n, 1),
     lending("row n, 2 numbers", |n| n, 2),
-    lending("row YARD_MOST_TRAINS, 2 numbers", |_| MOST_TRAINS, 2),
-    lending("no row, 2 numbers", |_| 0, 2),
+    lending("row n, 3 numbers", |n| n, 3),
+    lending("row YARD_MOST_TRAINS, 3 numbers", |_| MOST_TRAINS, 3),
+    lending("no row, 3 numbers", |_| 0, 3),
 ];
 
 const INTERVALS: [&str; 4] = [
@@ -63,6 +66,8 @@ fn on_kind(name: &str, kind: &str) -> String {
 pub fn required() -> Vec<String> {
     let mut required = INTERVALS.map(str::to_string).to_vec();
     required.extend(MISPLANNINGS.iter().map(|(name, _)| name.to_string()));
+    required.extend(MISCOUNTINGS.iter().map(|(name, _)| name.to_string()));
+    required.extend(OTHERS.iter().map(|(name, _)| name.to_string()));
     for lending in SUFFICIENT.iter().chain(&SHORT) {
         required.extend(KINDS.map(|kind| on_kind(lending.name, kind)));
     }
@@ -85,6 +90,19 @@ fn note_misplanned(seen: &mut Seen, case: &Case, day: &Day) {
     if has_groups(day) && day.assignments() <= MISPLANNED_MOST {
         for (name, misplan) in MISPLANNINGS {
             seen.note_if(misplan(day) != case.answer, name);
+        }
+    }
+}
+
+/// The same of mistakes about the plan's direct moves.
+fn note_miscounted(seen: &mut Seen, day: &Day, plan: &Plan) {
+    for (name, miscount) in MISCOUNTINGS {
+        seen.note_if(miscount(day, &plan.assignment) != plan.value, name);
+    }
+    if day.assignments() <= MISPLANNED_MOST {
+        for (name, other) in OTHERS {
+            let told = direct_of(day, other).is_some_and(|direct| direct != plan.value.direct);
+            seen.note_if(told, name);
         }
     }
 }
@@ -123,6 +141,9 @@ fn compare_one(case: &Case, n: usize, lending: &Lending, marks: Marks) -> Result
     };
     returned(got, outcome.refusal)?;
     numbers.holds(&outcome.written(numbers.length()))?;
+    if got == 0 {
+        add_up(case.boxes, numbers.words())?;
+    }
     trains.holds(&[slots.len()])?;
     row.holds(&slots)?;
     text.kept()
@@ -133,6 +154,7 @@ pub fn compare(case: &Case, seen: &mut Seen) -> Result<(), String> {
     if let Ok(day) = &case.read {
         note_intervals(seen, day);
         note_misplanned(seen, case, day);
+        case.plan().into_iter().for_each(|plan| note_miscounted(seen, day, plan));
     }
     let sufficient = SUFFICIENT.iter().enumerate();
     let sufficient = sufficient.filter(|(way, _)| chosen(case, *way, SUFFICIENT.len()));

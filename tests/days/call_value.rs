@@ -1,13 +1,15 @@
-//! yard_value: the model's three numbers for a row of slots, or the first of
+//! yard_value: the model's four numbers for a row of slots, or the first of
 //! its refusals: 10, 1 to 7 or 15, 11, 12, 13, 17.
 
+use crate::boxes::add_up;
 use crate::case::{unless_too_few, Case, Outcome, KINDS};
 use crate::day_file::READING_REFUSALS;
 use crate::draw::Random;
 use crate::lent::{lent_text, returned, Lent, Marks};
+use crate::miscountings::MISCOUNTINGS;
 use crate::misjudgings::MISJUDGINGS;
-use crate::misvaluings::MISVALUINGS;
-use crate::model::{Day, Value, MOST_GROUP};
+use crate::misvaluings::{supplied, MISVALUINGS};
+use crate::model::{Day, Numbers, MOST_GROUP, NUMBERS};
 use crate::plan::{Answer, Plan};
 use crate::rotation::seldom;
 use crate::seen::Seen;
@@ -19,8 +21,8 @@ use crate::valuing::{assignment, load, outside, overfull, parted, valued};
 const SEED: u64 = 9_000_000;
 
 /// Numbers lent: enough, and too few, in turn. A length of 256 has no low bits.
-const ENOUGH: [usize; 4] = [3, 5, 4, 256];
-const TOO_FEW: [usize; 3] = [0, 1, 2];
+const ENOUGH: [usize; 4] = [NUMBERS, 6, 5, 256];
+const TOO_FEW: [usize; 4] = [0, 1, 2, 3];
 
 // ---------------------------------------------------------------------------
 // What has to be seen
@@ -83,6 +85,17 @@ const VALUES: [&str; 9] = [
     "0: several groups in one slot",
 ];
 
+const DIRECT: [&str; 8] = [
+    "0: no direct move, but boxes",
+    "0: direct moves alone",
+    "0: direct and split moves",
+    "0: direct moves in several slots",
+    "0: direct moves both ways between two trains",
+    "0: direct moves of 2^8 or more",
+    "0: direct moves of 2^15 or more",
+    "0: as dear as the plan, with other direct moves",
+];
+
 const FEW: [&str; 3] = ["10 before 0", "10 before 1 to 7 or 15", "10 before 11, 12, 13 or 17"];
 
 fn lent_on(lent: usize, kind: &str) -> String {
@@ -90,8 +103,8 @@ fn lent_on(lent: usize, kind: &str) -> String {
 }
 
 pub fn required() -> Vec<String> {
-    let lists: [&[&str]; 6] = [&LENGTHS, &WINDOWS, &TRACKS, &GROUPS, &VALUES, &FEW];
-    let misvalued = MISVALUINGS.iter().map(|(name, _)| *name);
+    let lists: [&[&str]; 7] = [&LENGTHS, &WINDOWS, &TRACKS, &GROUPS, &VALUES, &DIRECT, &FEW];
+    let misvalued = MISVALUINGS.iter().chain(&MISCOUNTINGS).map(|(name, _)| *name);
     let misjudged = MISJUDGINGS.iter().map(|(name, _)| *name);
     let lists = lists.concat().into_iter().chain(misvalued).chain(misjudged);
     let mut required: Vec<String> = lists.map(str::to_string).collect();
@@ -165,22 +178,38 @@ fn groups_meet(day: &Day, assignment: &[usize]) -> bool {
 
 fn note_value(seen: &mut Seen, day: &Day, slots: &[u8], plan: &Plan, outcome: &Outcome) {
     let assignment = assignment(slots);
-    let Value { revisits, splits, cost } = plan.value;
-    let [_, own_splits, own_cost] = outcome.numbers;
+    let [_, own_splits, _, own_cost] = outcome.numbers;
+    let as_dear = own_cost == plan.value.cost;
     let full = |slot| load(day, slots, slot) == day.tracks;
     let other = assignment != plan.assignment;
     seen.note_if(!other, VALUES[0]);
     seen.note_if(other, VALUES[1]);
-    seen.note_if(other && own_cost == cost, VALUES[2]);
-    seen.note_if(own_cost == cost && outcome.numbers != [revisits, splits, cost], VALUES[3]);
+    seen.note_if(other && as_dear, VALUES[2]);
+    seen.note_if(as_dear && outcome.numbers != plan.value.numbers(), VALUES[3]);
     seen.note_if((1..=day.slots).any(full), VALUES[4]);
     seen.note_if(own_splits >= 1 << 14, VALUES[5]);
     seen.note_if(own_cost >= 1 << 30, VALUES[6]);
     seen.note_if(other && has_groups(day), VALUES[7]);
     seen.note_if(groups_meet(day, &assignment), VALUES[8]);
-    for (name, misvalue) in MISVALUINGS {
+    for (name, misvalue) in MISVALUINGS.iter().chain(&MISCOUNTINGS) {
         seen.note_if(Outcome::value(misvalue(day, &assignment)) != *outcome, name);
     }
+}
+
+/// What there is to count of direct moves.
+fn note_direct(seen: &mut Seen, day: &Day, slots: &[u8], plan: &Plan, outcome: &Outcome) {
+    let [_, splits, direct, cost] = outcome.numbers;
+    let beside: Vec<(usize, usize)> =
+        supplied(day).filter(|&(i, j)| slots[i] == slots[j]).collect();
+    let elsewhere = |&(i, _): &(usize, usize)| slots[i] != slots[beside[0].0];
+    seen.note_if(direct == 0 && splits > 0, DIRECT[0]);
+    seen.note_if(direct > 0 && splits == 0, DIRECT[1]);
+    seen.note_if(direct > 0 && splits > 0, DIRECT[2]);
+    seen.note_if(beside.iter().any(elsewhere), DIRECT[3]);
+    seen.note_if(beside.iter().any(|&(i, j)| beside.contains(&(j, i))), DIRECT[4]);
+    seen.note_if(direct >= 1 << 8, DIRECT[5]);
+    seen.note_if(direct >= 1 << 15, DIRECT[6]);
+    seen.note_if(cost == plan.value.cost && direct != plan.value.direct, DIRECT[7]);
 }
 
 fn note(seen: &mut Seen, case: &Case, slots: &[u8], outcome: &Outcome) {
@@ -193,6 +222,7 @@ fn note(seen: &mut Seen, case: &Case, slots: &[u8], outcome: &Outcome) {
         (Ok(day), _) => {
             let plan = case.plan().expect("a plan, an assignment being allowed");
             note_value(seen, day, slots, plan, outcome);
+            note_direct(seen, day, slots, plan, outcome);
         }
     }
     match outcome.refusal {
@@ -234,6 +264,9 @@ fn compare_one(
     };
     returned(got, outcome.refusal)?;
     numbers.holds(&outcome.written(lent))?;
+    if got == 0 {
+        add_up(case.boxes, numbers.words())?;
+    }
     row.kept()?;
     text.kept()
 }
@@ -265,4 +298,14 @@ pub fn compare(case: &Case, seen: &mut Seen) -> Result<(), String> {
         }
     }
     Ok(())
+}
+
+/// An assignment whose numbers were worked out by hand, straight against these.
+pub fn compare_known(case: &Case, slots: &[usize], numbers: Numbers) -> Result<(), String> {
+    let slots: Vec<u8> = slots.iter().map(|&slot| slot as u8).collect();
+    let outcome = Outcome { refusal: 0, numbers };
+    ENOUGH.into_iter().zip(0..).try_for_each(|(lent, turn)| {
+        compare_one(case, &slots, lent, Marks::of(turn), outcome)
+            .map_err(|what| format!("row {}, {lent} numbers: {what}", shown(&slots)))
+    })
 }

@@ -2,11 +2,12 @@
 //! suffice are never refused; after a refusal but 9 and 16 no word of them has
 //! changed, and words beyond those needed never.
 
+use crate::boxes::add_up;
 use crate::call_plan::planned;
 use crate::case::{Case, KINDS};
 use crate::header::{self, CHOICE_WORDS, COST_WORDS};
 use crate::lent::{lent_text, returned, Lent, Marks};
-use crate::model::{MOST_SLOTS, MOST_TRAINS};
+use crate::model::{MOST_SLOTS, MOST_TRAINS, NUMBERS};
 use crate::rotation::{chosen, seldom, supposed};
 use crate::seen::Seen;
 use crate::sys;
@@ -46,34 +47,35 @@ const ROW_BYTES: usize = header::MOST_TRAINS;
 /// bits.
 #[rustfmt::skip]
 const SUFFICIENT: [Lending; 6] = [
-    ("just enough", |need| (need.cost, need.choice, need.row, 3)),
-    ("just enough, 5 numbers", |need| (need.cost, need.choice, need.row, 5)),
-    ("one more of each", |need| (need.cost + 1, need.choice + 1, need.row + 1, 3)),
+    ("just enough", |need| (need.cost, need.choice, need.row, NUMBERS)),
+    ("just enough, 6 numbers", |need| (need.cost, need.choice, need.row, 6)),
+    ("one more of each", |need| (need.cost + 1, need.choice + 1, need.row + 1, NUMBERS)),
     ("a slot's words more", |need| (2 * need.cost, need.choice + need.layer(), need.row, 5)),
-    ("what always suffices", |_| (COST_WORDS, CHOICE_WORDS, ROW_BYTES, 3)),
+    ("what always suffices", |_| (COST_WORDS, CHOICE_WORDS, ROW_BYTES, NUMBERS)),
     ("much more", |_| (65536, 65536, 65536, 65536)),
 ];
 
 #[rustfmt::skip]
-const SHORT: [Lending; 18] = [
-    ("cost one short", |need| (need.cost - 1, need.choice, need.row, 3)),
-    ("choice one short", |need| (need.cost, need.choice - 1, need.row, 3)),
-    ("row one short", |need| (need.cost, need.choice, need.row - 1, 3)),
+const SHORT: [Lending; 19] = [
+    ("cost one short", |need| (need.cost - 1, need.choice, need.row, NUMBERS)),
+    ("choice one short", |need| (need.cost, need.choice - 1, need.row, NUMBERS)),
+    ("row one short", |need| (need.cost, need.choice, need.row - 1, NUMBERS)),
     ("only cost short", |need| (need.cost - 1, CHOICE_WORDS, ROW_BYTES, 5)),
     ("only choice short", |need| (COST_WORDS, need.choice - 1, ROW_BYTES, 5)),
     ("only row short", |need| (COST_WORDS, CHOICE_WORDS, need.row - 1, 5)),
-    ("half the cost", |need| (need.cost / 2, need.choice, need.row, 3)),
-    ("choice without a slot's words", |need| (need.cost, need.choice - need.layer(), need.row, 3)),
+    ("half the cost", |need| (need.cost / 2, need.choice, need.row, NUMBERS)),
+    ("choice without a slot's words", |need| (need.cost, need.choice - need.layer(), need.row, NUMBERS)),
     ("all one short", |need| (need.cost - 1, need.choice - 1, need.row - 1, 5)),
-    ("no cost", |need| (0, need.choice, need.row, 3)),
-    ("no choice", |need| (need.cost, 0, need.row, 3)),
-    ("no row", |need| (need.cost, need.choice, 0, 3)),
+    ("no cost", |need| (0, need.choice, need.row, NUMBERS)),
+    ("no choice", |need| (need.cost, 0, need.row, NUMBERS)),
+    ("no row", |need| (need.cost, need.choice, 0, NUMBERS)),
     ("nothing but numbers", |_| (0, 0, 0, 5)),
     ("no number", |need| (need.cost, need.choice, need.row, 0)),
     ("1 number", |need| (need.cost, need.choice, need.row, 1)),
     ("2 numbers", |need| (need.cost, need.choice, need.row, 2)),
-    ("2 numbers, the rest ample", |_| (COST_WORDS, CHOICE_WORDS, ROW_BYTES, 2)),
-    ("2 numbers and nothing else", |_| (0, 0, 0, 2)),
+    ("3 numbers", |need| (need.cost, need.choice, need.row, 3)),
+    ("3 numbers, the rest ample", |_| (COST_WORDS, CHOICE_WORDS, ROW_BYTES, 3)),
+    ("3 numbers and nothing else", |_| (0, 0, 0, 3)),
 ];
 
 /// Lendings that are to be seen on days of each number of trains and of slots.
@@ -137,6 +139,9 @@ fn compare_one(case: &Case, need: Need, lent: Lengths, marks: Marks) -> Result<(
     };
     returned(got, outcome.refusal)?;
     numbers.holds(&outcome.written(numbers.length()))?;
+    if got == 0 {
+        add_up(case.boxes, numbers.words())?;
+    }
     trains.holds(&[slots.len()])?;
     row.holds(&slots)?;
     let worked = matches!(outcome.refusal, 0 | 9 | 16);

@@ -6,8 +6,8 @@ use crate::day_file::write_day;
 use crate::draw::{draw_crowded, Random, DAMAGED_MOST};
 use crate::groups::{Tests, MOST_DIFFERENCES};
 use crate::header;
-use crate::known::BASELINE_DAYS;
-use crate::known_sets::GROUPED_BASELINE_DAYS;
+use crate::known::KNOWN_VALUES;
+use crate::known_direct::{GreatDay, DIRECT_VALUES, GREAT_DAYS};
 use crate::model::{MOST_BYTES_PRINTED, MOST_SLOTS, MOST_TRAINS};
 use crate::plan::broken;
 use crate::process::escaped;
@@ -16,8 +16,8 @@ use crate::special::special_texts;
 use crate::stack::compare_in_little_stack;
 use crate::sys;
 use crate::texts::{
-    damaged_texts, grouped_texts, heavy_texts, known_texts, pieced_texts, sound_texts, tied_texts,
-    Named,
+    damaged_texts, direct_texts, grouped_texts, hand_made_days, heavy_texts, known_texts,
+    pieced_texts, sound_texts, tied_texts, Named,
 };
 use crate::threads::compare_at_once;
 use crate::{call_answer, call_check, call_plan, call_value, call_workspace};
@@ -135,10 +135,22 @@ fn check_header(tests: &mut Tests) {
     }
 }
 
+/// Assignments worked out by hand, on their days.
+fn check_values(tests: &mut Tests) {
+    let known = KNOWN_VALUES.iter().chain(&DIRECT_VALUES);
+    let known = known.map(|known| (known.name, known.text(), known.slots, known.numbers));
+    let great = |great: &'static GreatDay| {
+        (great.name, write_day(&(great.day)()), &great.slots[..], great.numbers)
+    };
+    for (name, text, slots, numbers) in known.chain(GREAT_DAYS.iter().map(great)) {
+        let compared = call_value::compare_known(&Case::new(0, &text), slots, numbers);
+        tests.check(compared.is_ok(), &format!("yard_value, {name}: {compared:?}"));
+    }
+}
+
 /// Days made by hand for the baselines, and days that fill their slots.
 fn crowded_texts() -> impl Iterator<Item = Named> {
-    let made = BASELINE_DAYS.iter().chain(&GROUPED_BASELINE_DAYS);
-    let made = made.map(|day| (day.name.to_string(), day.text()));
+    let made = hand_made_days().map(|day| (day.name.to_string(), day.text()));
     made.chain((CROWDED_SEED..).take(CROWDED_DAYS).map(|seed| {
         let day = draw_crowded(&mut Random(seed), DAMAGED_MOST);
         (format!("seed {seed}"), write_day(&day))
@@ -148,10 +160,12 @@ fn crowded_texts() -> impl Iterator<Item = Named> {
 pub fn calls() -> bool {
     let mut run = Run::new();
     check_header(&mut run.tests);
+    check_values(&mut run.tests);
     run.group("known", known_texts());
     run.group("sound", sound_texts());
     run.group("sets", grouped_texts());
     run.group("ties", tied_texts());
+    run.group("direct", direct_texts());
     run.group("crowded", crowded_texts());
     run.group("heavy", heavy_texts());
     run.group("damaged", damaged_texts());

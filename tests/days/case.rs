@@ -1,8 +1,9 @@
 //! A text with what this program makes of it, found once for all calls; and
 //! what a call has to return for it.
 
+use crate::boxes::all_boxes;
 use crate::day_file::{read_day, Refusal};
-use crate::model::{Day, Value};
+use crate::model::{Day, Numbers, Value, NUMBERS};
 use crate::plan::{answer, broken, Answer, Interval, Plan};
 
 pub struct Case<'a> {
@@ -12,6 +13,8 @@ pub struct Case<'a> {
     pub text: &'a [u8],
     pub read: Result<Day, Refusal>,
     pub answer: Answer,
+    /// All boxes of the text, 0 where it is no day file.
+    pub boxes: usize,
 }
 
 impl Case<'_> {
@@ -27,7 +30,8 @@ impl Case<'_> {
         if !alike {
             broken(&format!("the whole text reads to {read:?}, its beginning gives {answer:?}"));
         }
-        Case { index, text, read, answer }
+        let boxes = if read.is_ok() { all_boxes(text) } else { 0 };
+        Case { index, text, read, answer, boxes }
     }
 
     pub fn plan(&self) -> Option<&Plan> {
@@ -43,7 +47,7 @@ impl Case<'_> {
             Answer::Plan(plan) => Outcome::value(plan.value),
             Answer::Refused(refusal) => Outcome::unread(*refusal),
             Answer::Overbooked(Interval { first, last, bound }) => {
-                Outcome { refusal: 9, numbers: [*first, *last, *bound] }
+                Outcome { refusal: 9, numbers: [*first, *last, *bound, 0] }
             }
             Answer::Unkept => Outcome::carrying(16, 0),
         }
@@ -62,17 +66,17 @@ impl Case<'_> {
 
 pub const KINDS: [&str; 4] = ["a day with a plan", "a day with 9", "a day with 16", "no day file"];
 
-/// What a call returns and its three numbers: 0 with revisits, splits and cost,
-/// or the number of a refusal with what it carries, then zeros.
+/// What a call returns and its four numbers: 0 with those of the assignment, or
+/// the number of a refusal with what it carries, then zeros.
 #[derive(Clone, Copy, Debug, PartialEq)]
 pub struct Outcome {
     pub refusal: usize,
-    pub numbers: [usize; 3],
+    pub numbers: Numbers,
 }
 
 impl Outcome {
-    pub fn value(Value { revisits, splits, cost }: Value) -> Outcome {
-        Outcome { refusal: 0, numbers: [revisits, splits, cost] }
+    pub fn value(value: Value) -> Outcome {
+        Outcome { refusal: 0, numbers: value.numbers() }
     }
 
     pub fn unread(Refusal { number, line }: Refusal) -> Outcome {
@@ -80,20 +84,20 @@ impl Outcome {
     }
 
     pub fn carrying(refusal: usize, carried: usize) -> Outcome {
-        Outcome { refusal, numbers: [carried, 0, 0] }
+        Outcome { refusal, numbers: [carried, 0, 0, 0] }
     }
 
-    /// What the call writes where so many numbers are lent: all three or, with
+    /// What the call writes where so many numbers are lent: all four or, with
     /// 10, none.
     pub fn written(&self, lent: usize) -> Vec<u64> {
-        let written = if lent < 3 { &[][..] } else { &self.numbers[..] };
+        let written = if lent < NUMBERS { &[][..] } else { &self.numbers[..] };
         written.iter().map(|&number| number as u64).collect()
     }
 }
 
 /// Where numbers are too few, 10 comes before the text is looked at.
 pub fn unless_too_few(lent: usize, outcome: Outcome) -> Outcome {
-    match lent < 3 {
+    match lent < NUMBERS {
         true => Outcome::carrying(10, 0),
         false => outcome,
     }

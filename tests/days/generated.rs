@@ -6,8 +6,8 @@ use crate::groups::{Tests, MOST_DIFFERENCES};
 use crate::process::{compare_file, Feed};
 use crate::special::{line_end_texts, long_texts, special_texts, tiny_texts};
 use crate::texts::{
-    damaged_texts, grouped_texts, heavy_texts, known_texts, pieced_texts, sound_texts, tied_texts,
-    Named,
+    damaged_texts, direct_texts, grouped_texts, heavy_texts, known_texts, pieced_texts,
+    sound_texts, tied_texts, Named,
 };
 use std::fs;
 
@@ -59,6 +59,7 @@ pub fn generated(program: &str) -> bool {
     group(&mut tests, "sound", sound_texts());
     group(&mut tests, "sets", grouped_texts());
     group(&mut tests, "ties", tied_texts());
+    group(&mut tests, "direct", direct_texts());
     group(&mut tests, "heavy", heavy_texts());
     group(&mut tests, "damaged", damaged_texts());
     group(&mut tests, "special", special_texts());
@@ -70,6 +71,7 @@ pub fn generated(program: &str) -> bool {
         tests.require("sound", &["plan", "9", "16"]);
         tests.require("sets", &["plan", "9", "16"]);
         tests.require("ties", &["plan"]);
+        tests.require("direct", &["plan"]);
         tests.require("heavy", &["plan"]);
         tests.require("damaged", &["1", "2", "3", "4", "5", "6", "7", "15"]);
     }

@@ -2,7 +2,7 @@
 //! 3 of 02).
 
 use crate::draw::{draw_heavy, Random};
-use crate::model::{rank, revisiting, split_moves_to, Day, Rank, MOST_SLOTS};
+use crate::model::{rank, revisiting, split_moves_to, weighed, Day, Rank, MOST_SLOTS};
 use crate::plan::{allowed, best, first_by};
 use std::ops::RangeInclusive;
 
@@ -18,7 +18,7 @@ pub fn slot_costs(day: &Day, assignment: &[usize]) -> [usize; MOST_SLOTS] {
     for (i, slot) in assignment.iter().enumerate() {
         let revisits = usize::from(revisiting(day, assignment, i));
         let splits = split_moves_to(day, assignment, i);
-        costs[slot - 1] += day.revisit_weight * revisits + day.split_weight * splits;
+        costs[slot - 1] += weighed(day, revisits, splits);
     }
     costs
 }

@@ -1,14 +1,16 @@
-//! What 01 says: its days with known outcome, P5 as order 5 of 02 changes it,
-//! and its examples of refusals; and days made by hand for the baselines of
-//! order 1. Those of order 4 stand in known_sets.rs, of order 5 in known_ties.rs.
+//! What 01 says: its days with known outcome, P5 as order 5 of 02 changes it and
+//! all with the direct moves of order 6, and its examples of refusals; and days
+//! made by hand for the baselines of order 1. Those of order 4 stand in
+//! known_sets.rs, of order 5 in known_ties.rs, of order 6 in known_direct.rs.
 
 use crate::day_file::{HEAD_NAMES, MOVE_NAMES, TRAIN_NAMES};
+use crate::model::Numbers;
 
 /// What 01 and 02 say of a text.
 #[derive(Debug)]
 pub enum Known {
-    /// The slots by position; revisits, splits and cost.
-    Best(&'static [usize], [usize; 3]),
+    /// The slots by position, and their numbers.
+    Best(&'static [usize], Numbers),
     /// First slot, last slot and trains bound inside.
     Overbooked([usize; 3]),
     /// The groups can't be kept: 16.
@@ -43,7 +45,7 @@ pub fn day_text(head: &str, trains: &[&str], moves: &[&str]) -> Vec<u8> {
 pub const P1_HEAD: &str = "4 2 2 1 1";
 pub const P1_TRAINS: &[&str] = &["1 1 2", "2 1 2", "3 1 2", "4 1 2"];
 pub const P1_MOVES: &[&str] = &["1 4 1", "3 1 3", "3 4 5", "4 2 6", "4 3 1"];
-const P6_TRAINS: &[&str] = &["1 1 2", "2 1 2", "3 1 2", "4 2 2"];
+pub const P6_TRAINS: &[&str] = &["1 1 2", "2 1 2", "3 1 2", "4 2 2"];
 
 pub const fn known(
     name: &'static str,
@@ -58,26 +60,56 @@ pub const fn known(
 /// P2 and P3 value a given assignment of P1's day: see `KNOWN_VALUES`.
 #[rustfmt::skip]
 pub const KNOWN_DAYS: [KnownDay; 11] = [
-    known("P1", P1_HEAD, P1_TRAINS, P1_MOVES, Known::Best(&[2, 1, 2, 1], [1, 7, 8])),
-    known("P4", "4 2 2 0 1", P1_TRAINS, P1_MOVES, Known::Best(&[2, 1, 2, 1], [1, 7, 7])),
-    known("P5", "4 2 2 0 0", P1_TRAINS, P1_MOVES, Known::Best(&[2, 1, 2, 1], [1, 7, 0])),
-    known("P6", P1_HEAD, P6_TRAINS, P1_MOVES, Known::Best(&[1, 2, 1, 2], [2, 7, 9])),
-    known("P7", "4 2 2 4 1", P6_TRAINS, P1_MOVES, Known::Best(&[1, 1, 2, 2], [1, 10, 14])),
-    known("P8", "1 1 1 1 1", &["1 1 1"], &[], Known::Best(&[1], [0, 0, 0])),
+    known("P1", P1_HEAD, P1_TRAINS, P1_MOVES, Known::Best(&[2, 1, 2, 1], [1, 7, 9, 8])),
+    known("P4", "4 2 2 0 1", P1_TRAINS, P1_MOVES, Known::Best(&[2, 1, 2, 1], [1, 7, 9, 7])),
+    known("P5", "4 2 2 0 0", P1_TRAINS, P1_MOVES, Known::Best(&[2, 1, 2, 1], [1, 7, 9, 0])),
+    known("P6", P1_HEAD, P6_TRAINS, P1_MOVES, Known::Best(&[1, 2, 1, 2], [2, 7, 9, 9])),
+    known("P7", "4 2 2 4 1", P6_TRAINS, P1_MOVES, Known::Best(&[1, 1, 2, 2], [1, 10, 6, 14])),
+    known("P8", "1 1 1 1 1", &["1 1 1"], &[], Known::Best(&[1], [0, 0, 0, 0])),
     known("P9", "3 2 2 1 1", &["1 1 1", "2 1 1", "3 1 1"], &[], Known::Overbooked([1, 1, 3])),
     known("P10", "3 1 2 1 1", &["1 1 2", "2 1 2", "3 1 2"], &[], Known::Overbooked([1, 2, 3])),
-    known("P11", "2 1 2 1 1", &["1 1 2", "2 1 2"], &["1 2 1", "2 1 1"], Known::Best(&[2, 1], [1, 2, 3])),
-    known("P12", "2 2 2 1 1", &["1 1 2", "2 1 2"], &["1 2 1", "2 1 1"], Known::Best(&[1, 1], [0, 0, 0])),
-    known("P13", "3 1 3 1 1", &["1 1 3", "2 1 3", "3 1 3"], &["1 2 1"], Known::Best(&[3, 2, 1], [0, 1, 1])),
+    known("P11", "2 1 2 1 1", &["1 1 2", "2 1 2"], &["1 2 1", "2 1 1"], Known::Best(&[2, 1], [1, 2, 0, 3])),
+    known("P12", "2 2 2 1 1", &["1 1 2", "2 1 2"], &["1 2 1", "2 1 1"], Known::Best(&[1, 1], [0, 0, 2, 0])),
+    known("P13", "3 1 3 1 1", &["1 1 3", "2 1 3", "3 1 3"], &["1 2 1"], Known::Best(&[3, 2, 1], [0, 1, 0, 1])),
 ];
 
-/// Head and slots on P1's trains and moves; revisits, splits and cost.
+/// An assignment of a day, worked out by hand.
+pub struct KnownValue {
+    pub name: &'static str,
+    pub head: &'static str,
+    pub trains: &'static [&'static str],
+    /// With the lines after them.
+    pub moves: &'static [&'static str],
+    pub slots: &'static [usize],
+    pub numbers: Numbers,
+}
+
+impl KnownValue {
+    pub fn text(&self) -> Vec<u8> {
+        day_text(self.head, self.trains, self.moves)
+    }
+}
+
+/// On P1's trains and moves.
+const fn of_p1(
+    name: &'static str,
+    head: &'static str,
+    slots: &'static [usize],
+    numbers: Numbers,
+) -> KnownValue {
+    KnownValue { name, head, trains: P1_TRAINS, moves: P1_MOVES, slots, numbers }
+}
+
+/// P1's 16 boxes: trains 1 and 3 exchange 3, trains 2 and 4 exchange 6, trains 3
+/// and 4 exchange 6, trains 1 and 4 exchange 1.
 #[rustfmt::skip]
-pub const KNOWN_VALUES: [(&str, &str, [usize; 4], [usize; 3]); 4] = [
-    ("P1", P1_HEAD, [2, 1, 2, 1], [1, 7, 8]),
-    ("P2", P1_HEAD, [2, 1, 1, 2], [1, 15, 16]),
-    ("P3", P1_HEAD, [1, 1, 2, 2], [1, 10, 11]),
-    ("P4, the later row", "4 2 2 0 1", [1, 2, 1, 2], [2, 7, 7]),
+pub const KNOWN_VALUES: [KnownValue; 6] = [
+    of_p1("P1", P1_HEAD, &[2, 1, 2, 1], [1, 7, 9, 8]),
+    of_p1("P2", P1_HEAD, &[2, 1, 1, 2], [1, 15, 1, 16]),
+    of_p1("P3", P1_HEAD, &[1, 1, 2, 2], [1, 10, 6, 11]),
+    of_p1("P4, the later row", "4 2 2 0 1", &[1, 2, 1, 2], [2, 7, 9, 7]),
+    of_p1("P3 the other way round", P1_HEAD, &[2, 2, 1, 1], [2, 10, 6, 12]),
+    of_p1("P2 the other way round", P1_HEAD, &[1, 2, 2, 1], [1, 15, 1, 16]),
 ];
 
 /// 01's small inputs for refusals, each in its place in an otherwise good day.
@@ -97,8 +129,8 @@ pub const TWO: &[&str] = &["3 1 2", "9 1 2"];
 /// order of the checks.
 #[rustfmt::skip]
 pub const EDGES: [KnownDay; 33] = [
-    known("exactly G trains in a slot", "2 2 1 1 1", &["3 1 1", "9 1 1"], &["3 9 1"], Known::Best(&[1, 1], [0, 0, 0])),
-    known("weights 65535", "2 1 2 65535 65535", TWO, &["3 9 1"], Known::Best(&[2, 1], [0, 1, 65535])),
+    known("exactly G trains in a slot", "2 2 1 1 1", &["3 1 1", "9 1 1"], &["3 9 1"], Known::Best(&[1, 1], [0, 0, 1, 0])),
+    known("weights 65535", "2 1 2 65535 65535", TWO, &["3 9 1"], Known::Best(&[2, 1], [0, 1, 0, 65535])),
     known("weight 65536", "2 1 2 65536 1", TWO, &[], Known::Refused(3, 2)),
     known("weight 100000 is no value", "2 1 2 1 100000", TWO, &[], Known::Refused(2, 2)),
     known("form before limits", "13 1 2 1 x", TWO, &[], Known::Refused(2, 2)),
@@ -110,14 +142,14 @@ pub const EDGES: [KnownDay; 33] = [
     known("last after T", "2 1 2 1 1", &["3 1 3", "9 1 2"], &[], Known::Refused(3, 4)),
     known("limit before 4", "2 1 2 1 1", &["3 1 2", "3 0 2"], &[], Known::Refused(3, 5)),
     known("4 before 5", "2 1 2 1 1", &["3 1 2", "3 2 1"], &[], Known::Refused(4, 5)),
-    known("trains 255 and 256", "2 1 2 1 1", &["255 1 2", "256 1 2"], &["255 256 1"], Known::Best(&[2, 1], [0, 1, 1])),
-    known("trains 65535 and 65536", "2 1 2 1 1", &["65535 1 2", "65536 1 2"], &["65535 65536 1"], Known::Best(&[2, 1], [0, 1, 1])),
-    known("equal but for 65536", "2 1 2 1 1", &["34463 1 2", "99999 1 2"], &["34463 99999 1"], Known::Best(&[2, 1], [0, 1, 1])),
-    known("train 9 before 10000", "2 1 2 1 1", &["9 1 2", "10000 1 2"], &["9 10000 2", "10000 9 1"], Known::Best(&[2, 1], [1, 3, 4])),
+    known("trains 255 and 256", "2 1 2 1 1", &["255 1 2", "256 1 2"], &["255 256 1"], Known::Best(&[2, 1], [0, 1, 0, 1])),
+    known("trains 65535 and 65536", "2 1 2 1 1", &["65535 1 2", "65536 1 2"], &["65535 65536 1"], Known::Best(&[2, 1], [0, 1, 0, 1])),
+    known("equal but for 65536", "2 1 2 1 1", &["34463 1 2", "99999 1 2"], &["34463 99999 1"], Known::Best(&[2, 1], [0, 1, 0, 1])),
+    known("train 9 before 10000", "2 1 2 1 1", &["9 1 2", "10000 1 2"], &["9 10000 2", "10000 9 1"], Known::Best(&[2, 1], [1, 3, 0, 4])),
     known("train 10000 before 9", "2 1 2 1 1", &["10000 1 2", "9 1 2"], &[], Known::Refused(4, 5)),
     known("to 10000 before to 9", "2 1 2 1 1", &["9 1 2", "10000 1 2"], &["10000 9 1", "9 10000 1"], Known::Refused(7, 8)),
     known("to 99999 before to 34463", "3 2 2 1 1", &["34463 1 2", "50000 1 2", "99999 1 2"], &["99999 34463 1", "34463 50000 1"], Known::Refused(7, 9)),
-    known("train 99999", "1 1 1 1 1", &["99999 1 1"], &[], Known::Best(&[1], [0, 0, 0])),
+    known("train 99999", "1 1 1 1 1", &["99999 1 1"], &[], Known::Best(&[1], [0, 0, 0, 0])),
     known("train 100000 is no value", "1 1 1 1 1", &["100000 1 1"], &[], Known::Refused(2, 4)),
     known("train 0", "1 1 1 1 1", &["0 1 1"], &[], Known::Refused(3, 4)),
     known("from 99999, unlisted", "2 1 2 1 1", TWO, &["3 99999 1"], Known::Refused(6, 7)),
@@ -157,8 +189,8 @@ pub struct BaselineDay {
 }
 
 /// The slots by position, 0 where a train is left without one; 0 or the number
-/// of the refusal; the three numbers; the saving.
-pub type BaselineOutcome = (&'static [usize], usize, [usize; 3], i64);
+/// of the refusal; the four numbers; the saving.
+pub type BaselineOutcome = (&'static [usize], usize, Numbers, i64);
 
 impl BaselineDay {
     pub fn text(&self) -> Vec<u8> {
@@ -180,23 +212,23 @@ const fn made(
 #[rustfmt::skip]
 pub const BASELINE_DAYS: [BaselineDay; 10] = [
     made("P1", P1_HEAD, P1_TRAINS, P1_MOVES,
-        [(&[1, 1, 2, 2], 0, [1, 10, 11], 3), (&[1, 1, 2, 2], 0, [1, 10, 11], 3)]),
+        [(&[1, 1, 2, 2], 0, [1, 10, 6, 11], 3), (&[1, 1, 2, 2], 0, [1, 10, 6, 11], 3)]),
     made("boxes from earlier slots count", "3 1 3 1 1", &["1 1 3", "2 1 3", "3 1 3"], &["2 1 5", "3 2 2"],
-        [(&[1, 2, 3], 0, [0, 7, 7], 0), (&[1, 3, 2], 0, [1, 7, 8], 1)]),
+        [(&[1, 2, 3], 0, [0, 7, 0, 7], 0), (&[1, 3, 2], 0, [1, 7, 0, 8], 1)]),
     made("boxes from the current slot don't", "3 2 2 1 1", &["1 1 2", "2 1 2", "3 1 2"], &["2 3 1", "3 1 9"],
-        [(&[1, 1, 2], 0, [1, 10, 11], 10), (&[1, 2, 1], 0, [0, 1, 1], 0)]),
+        [(&[1, 1, 2], 0, [1, 10, 0, 11], 10), (&[1, 2, 1], 0, [0, 1, 9, 1], 0)]),
     made("a tie", "3 1 3 1 1", &["1 1 2", "2 1 2", "3 3 3"], &["1 2 1", "2 3 1"],
-        [(&[1, 2, 3], 0, [2, 2, 4], 1), (&[1, 2, 3], 0, [2, 2, 4], 1)]),
+        [(&[1, 2, 3], 0, [2, 2, 0, 4], 1), (&[1, 2, 3], 0, [2, 2, 0, 4], 1)]),
     made("tracks stay free", "2 2 3 1 1", &["1 3 3", "2 1 1"], &["1 2 1"],
-        [(&[3, 1], 0, [0, 1, 1], 0), (&[3, 1], 0, [0, 1, 1], 0)]),
+        [(&[3, 1], 0, [0, 1, 0, 1], 0), (&[3, 1], 0, [0, 1, 0, 1], 0)]),
     made("first come leaves one over", "2 1 2 1 1", &["1 1 2", "2 1 1"], &["1 2 1"],
-        [(&[1, 0], 14, [2, 0, 0], 0), (&[2, 1], 0, [0, 1, 1], 0)]),
+        [(&[1, 0], 14, [2, 0, 0, 0], 0), (&[2, 1], 0, [0, 1, 0, 1], 0)]),
     made("myopic leaves one over", "2 1 2 1 1", &["1 1 1", "2 1 2"], &["1 2 1"],
-        [(&[1, 2], 0, [1, 1, 2], 0), (&[0, 1], 14, [1, 0, 0], 0)]),
+        [(&[1, 2], 0, [1, 1, 0, 2], 0), (&[0, 1], 14, [1, 0, 0, 0], 0)]),
     made("the lowest of two left over", "4 2 2 1 1", &["1 1 2", "2 1 2", "3 1 1", "4 1 1"], &[],
-        [(&[1, 1, 0, 0], 14, [3, 0, 0], 0), (&[1, 1, 0, 0], 14, [3, 0, 0], 0)]),
+        [(&[1, 1, 0, 0], 14, [3, 0, 0, 0], 0), (&[1, 1, 0, 0], 14, [3, 0, 0, 0], 0)]),
     made("window passed, still waiting", "4 1 4 2 1", &["1 2 2", "2 2 3", "3 1 4", "4 1 1"], &["1 4 1", "2 3 2"],
-        [(&[2, 3, 1, 0], 14, [4, 0, 0], 0), (&[0, 2, 1, 0], 14, [1, 0, 0], 0)]),
+        [(&[2, 3, 1, 0], 14, [4, 0, 0, 0], 0), (&[0, 2, 1, 0], 14, [1, 0, 0, 0], 0)]),
     made("9 before 14", "3 2 2 1 1", &["1 1 1", "2 1 1", "3 1 1"], &[],
-        [(&[1, 1, 0], 9, [1, 1, 3], 0), (&[1, 1, 0], 9, [1, 1, 3], 0)]),
+        [(&[1, 1, 0], 9, [1, 1, 3, 0], 0), (&[1, 1, 0], 9, [1, 1, 3, 0], 0)]),
 ];

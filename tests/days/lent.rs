@@ -87,6 +87,11 @@ impl<W: Word> Lent<W> {
         self.length
     }
 
+    /// The words lent, as they are now.
+    pub fn words(&self) -> &[W] {
+        &self.now[AROUND..][..self.length]
+    }
+
     /// Of the first word lent. It may be written through, even where a call is
     /// not to write: that is what shows.
     pub fn pointer(&mut self) -> *mut W {

@@ -15,6 +15,11 @@
 //! choose. Mode self counts how often they do, and on how many of these days
 //! each of a list of mistakes in that order would give another plan.
 //!
+//! Direct moves (order 6 of 02) are counted as such, and on each answer of the
+//! library they and the split moves have to add up to the boxes of the text. Group
+//! direct has days drawn for them; known days, assignments and baselines tell each
+//! of a list of mistakes about them.
+//!
 //!     days expect < day.txt        prints what yard-plan has to print
 //!     days examples PROGRAM DIR    runs the stored days of DIR
 //!     days generated PROGRAM       runs known and drawn days and damaged texts
@@ -37,6 +42,7 @@
 //!        rustc -O --edition 2021 -L target/staticlib -o target/tests/days tests/days/main.rs
 
 mod baselines;
+mod boxes;
 mod call_answer;
 mod call_check;
 mod call_plan;
@@ -49,6 +55,7 @@ mod damage_sets;
 mod day_file;
 mod draft;
 mod draw;
+mod draw_direct;
 mod draw_sets;
 mod draw_ties;
 mod generated;
@@ -56,10 +63,12 @@ mod groups;
 mod header;
 mod heavy;
 mod known;
+mod known_direct;
 mod known_sets;
 mod known_ties;
 mod lent;
 mod library;
+mod miscountings;
 mod misjudgings;
 mod misorderings;
 mod misplannings;
@@ -77,6 +86,7 @@ mod seen;
 mod self_baselines;
 mod self_calls;
 mod self_check;
+mod self_direct;
 mod self_sets;
 mod self_ties;
 mod sets;

@@ -1,6 +1,9 @@
-//! Mistakes in the order of plans (order 5 of 02). Each has to choose otherwise
-//! than the paper on some of the days that are planned, for else a library that
-//! makes it would pass.
+//! Mistakes in the order of plans (order 5 of 02), in which direct moves have no
+//! part (order 6). Each has to choose otherwise than the papers on some of the
+//! days that are planned, for else a library that makes it would pass.
+//!
+//! All boxes of a day being direct or split moves, more of the one kind first is
+//! fewer of the other first.
 //!
 //! Masks belong to one assignment only, so what would come after them is never
 //! asked: to put them before the sum is to ignore the sum, and to put them
@@ -28,7 +31,7 @@ pub fn try_all(day: &Day) -> Vec<Tried> {
 /// Which of a day's allowed assignments comes first, there being one.
 type Misorder = fn(&Day, &[Tried]) -> Vec<usize>;
 
-pub const MISORDERINGS: [(&str, Misorder); 23] = [
+pub const MISORDERINGS: [(&str, Misorder); 31] = [
     ("01's order alone: masks before revisits", as_before),
     ("revisits before cost", revisits_first),
     ("revisits ignored", revisits_ignored),
@@ -52,6 +55,14 @@ pub const MISORDERINGS: [(&str, Misorder); 23] = [
     ("the smaller mask first", smaller_masks),
     ("masks from the highest slot down", highest_slot_first),
     ("the lower slots by position for masks", lower_slots),
+    ("more direct moves before cost", direct_first),
+    ("direct moves as dear as split ones", direct_as_dear),
+    ("more direct moves before the revisits", direct_before_revisits),
+    ("fewer direct moves before the revisits", fewer_before_revisits),
+    ("fewer direct moves after the revisits", fewer_after_revisits),
+    ("more direct moves for the sum", direct_for_sum),
+    ("more direct moves after the sum", direct_after_sum),
+    ("fewer direct moves after the sum", fewer_after_sum),
 ];
 
 /// The first one by what is mistaken for its rank.
@@ -192,4 +203,41 @@ fn highest_slot_first(_: &Day, all: &[Tried]) -> Vec<usize> {
 
 fn lower_slots(_: &Day, all: &[Tried]) -> Vec<usize> {
     for_masks(all, |tried| tried.assignment.clone())
+}
+
+fn direct(day: &Day, tried: &Tried) -> usize {
+    value(day, &tried.assignment).direct
+}
+
+fn direct_first(day: &Day, all: &[Tried]) -> Vec<usize> {
+    first(all, |tried| (Reverse(direct(day, tried)), tried.rank))
+}
+
+fn direct_as_dear(day: &Day, all: &[Tried]) -> Vec<usize> {
+    first(all, |tried| (tried.rank.cost + day.split_weight * direct(day, tried), tried.rank))
+}
+
+fn direct_before_revisits(day: &Day, all: &[Tried]) -> Vec<usize> {
+    first(all, |tried| (tried.rank.cost, Reverse(direct(day, tried)), tried.rank))
+}
+
+fn fewer_before_revisits(day: &Day, all: &[Tried]) -> Vec<usize> {
+    first(all, |tried| (tried.rank.cost, direct(day, tried), tried.rank))
+}
+
+fn fewer_after_revisits(day: &Day, all: &[Tried]) -> Vec<usize> {
+    first(all, |tried| (tried.rank.cost, tried.rank.revisits, direct(day, tried), tried.rank))
+}
+
+fn direct_for_sum(day: &Day, all: &[Tried]) -> Vec<usize> {
+    let boxes: usize = day.boxes.iter().flatten().sum();
+    for_sum(all, |tried| boxes - direct(day, tried))
+}
+
+fn direct_after_sum(day: &Day, all: &[Tried]) -> Vec<usize> {
+    for_masks(all, |tried| (Reverse(direct(day, tried)), tried.rank.masks))
+}
+
+fn fewer_after_sum(day: &Day, all: &[Tried]) -> Vec<usize> {
+    for_masks(all, |tried| (direct(day, tried), tried.rank.masks))
 }

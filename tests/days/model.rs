@@ -1,5 +1,5 @@
 //! The day, and the valuing and the order of assignments (01, The model; the
-//! order by order 5 of 02).
+//! order by order 5 of 02, direct moves by order 6).
 
 use std::cmp::Reverse;
 
@@ -23,7 +23,7 @@ pub const MOST_BYTES_ACCEPTED: usize = 2437;
 pub const MOST_BYTES_UNGROUPED: usize = 2317;
 
 /// The greatest plan file.
-pub const MOST_BYTES_PRINTED: usize = 148;
+pub const MOST_BYTES_PRINTED: usize = 161;
 
 #[derive(Clone, Debug, PartialEq)]
 pub struct Train {
@@ -55,14 +55,28 @@ impl Day {
 }
 
 // ---------------------------------------------------------------------------
-// Valuing an assignment (01, The model)
+// Valuing an assignment (01, The model; direct moves by order 6 of 02)
 // ---------------------------------------------------------------------------
+
+/// The numbers of an assignment, in the order of the plan file's names line and
+/// of yard.h: revisits, split moves, direct moves, cost.
+pub type Numbers = [usize; 4];
+
+/// How many they are.
+pub const NUMBERS: usize = 4;
 
 #[derive(Clone, Copy, Debug, PartialEq)]
 pub struct Value {
     pub revisits: usize,
     pub splits: usize,
+    pub direct: usize,
     pub cost: usize,
+}
+
+impl Value {
+    pub fn numbers(&self) -> Numbers {
+        [self.revisits, self.splits, self.direct, self.cost]
+    }
 }
 
 /// Whether train i has at least one supplier in a later slot.
@@ -85,11 +99,25 @@ fn split_moves(day: &Day, assignment: &[usize]) -> usize {
     (0..assignment.len()).map(|i| split_moves_to(day, assignment, i)).sum()
 }
 
+/// The boxes between trains of the same slot, counted as such, and not as what
+/// the split moves leave of all boxes.
+fn direct_moves(day: &Day, assignment: &[usize]) -> usize {
+    let n = assignment.len();
+    let beside = move |i: usize| (0..n).filter(move |&j| assignment[j] == assignment[i]);
+    (0..n).flat_map(|i| beside(i).map(move |j| day.boxes[i][j])).sum()
+}
+
+/// Only the weights bring revisits and split moves into one cost. Direct moves
+/// have no part in it.
+pub fn weighed(day: &Day, revisits: usize, splits: usize) -> usize {
+    day.revisit_weight * revisits + day.split_weight * splits
+}
+
 pub fn value(day: &Day, assignment: &[usize]) -> Value {
     let revisits = revisits(day, assignment);
     let splits = split_moves(day, assignment);
-    let cost = day.revisit_weight * revisits + day.split_weight * splits;
-    Value { revisits, splits, cost }
+    let direct = direct_moves(day, assignment);
+    Value { revisits, splits, direct, cost: weighed(day, revisits, splits) }
 }
 
 pub fn within_windows(day: &Day, assignment: &[usize]) -> bool {
@@ -137,8 +165,11 @@ pub struct Rank {
     pub masks: Reverse<[usize; MOST_SLOTS]>,
 }
 
+/// Direct moves aren't asked for: order 6 shows them and leaves the order of
+/// plans as it is.
 pub fn rank(day: &Day, assignment: &[usize]) -> Rank {
-    let Value { revisits, cost, .. } = value(day, assignment);
+    let revisits = revisits(day, assignment);
+    let cost = weighed(day, revisits, split_moves(day, assignment));
     let masks = Reverse(slot_masks(assignment));
     Rank { cost, revisits, sum: slot_sum(assignment), masks }
 }

@@ -1,5 +1,6 @@
 //! The answer to a text: planning it, and the bytes that are printed for it.
 
+use crate::boxes::all_boxes;
 use crate::day_file::{read_day, Refusal};
 use crate::model::{rank, value, within_tracks, Day, Train, Value, MOST_BYTES_READ};
 use crate::sets::{has_groups, keeps_groups, ungrouped};
@@ -139,20 +140,30 @@ fn part_read(text: &[u8]) -> &[u8] {
     &text[..text.len().min(MOST_BYTES_READ)]
 }
 
+/// Split and direct moves of a plan are counted apart, and all boxes a third
+/// time; if they don't add up, it is this test program that is wrong.
 pub fn answer(text: &[u8]) -> Answer {
-    match read_day(part_read(text)) {
+    let text = part_read(text);
+    let answer = match read_day(text) {
         Ok(day) => plan(&day),
         Err(refusal) => Answer::Refused(refusal),
+    };
+    match &answer {
+        Answer::Plan(plan) if plan.value.splits + plan.value.direct != all_boxes(text) => {
+            broken(&format!("{plan:?} for {} boxes", all_boxes(text)))
+        }
+        _ => answer,
     }
 }
 
 // ---------------------------------------------------------------------------
-// Writing (01, The program)
+// Writing (01, The program; the first names line by order 6 of 02)
 // ---------------------------------------------------------------------------
 
 fn write_plan(plan: &Plan) -> String {
-    let Value { revisits, splits, cost } = plan.value;
-    let mut text = format!("revisits splits cost\n{revisits} {splits} {cost}\ntrain slot\n");
+    let Value { revisits, splits, direct, cost } = plan.value;
+    let mut text = "revisits splits direct cost\n".to_string();
+    text += &format!("{revisits} {splits} {direct} {cost}\ntrain slot\n");
     for (number, slot) in plan.numbers.iter().zip(&plan.assignment) {
         text += &format!("{number} {slot}\n");
     }

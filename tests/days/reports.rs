@@ -2,7 +2,8 @@
 //! report, and every difference that a mistake would make, was seen.
 
 use crate::groups::{Tests, MOST_DIFFERENCES};
-use crate::library::{planned, report, Planned, Report, BASELINES};
+use crate::library::{complete, planned, report, Planned, Report, BASELINES};
+use crate::miscountings::MISCOUNTINGS;
 use crate::misreadings::MISREADINGS;
 use crate::misreports::{MISPLACINGS, MISREPORTS};
 use crate::procedures::myopic_by;
@@ -48,14 +49,24 @@ fn misreported(baseline: &str, mistake: &str) -> String {
     format!("{baseline}: {mistake}")
 }
 
+/// These mistakes in the report of each baseline.
+fn on_each(mistakes: &[&str]) -> Vec<String> {
+    let names = |baseline: &str| -> Vec<String> {
+        mistakes.iter().map(|mistake| misreported(baseline, mistake)).collect()
+    };
+    BASELINES.iter().flat_map(|baseline| names(baseline.name)).collect()
+}
+
 /// The misreadings that have to be told apart from the paper.
 fn misreadings() -> Vec<String> {
     let myopic = MISREADINGS.iter().map(|(name, _)| name.to_string());
     let first_come = MISPLACINGS.iter().map(|(name, _)| name.to_string());
-    let both = BASELINES
-        .iter()
-        .flat_map(|baseline| MISREPORTS.iter().map(|(name, _)| misreported(baseline.name, name)));
-    myopic.chain(first_come).chain(both).collect()
+    myopic.chain(first_come).chain(on_each(&MISREPORTS.map(|(name, _)| name))).collect()
+}
+
+/// The same of mistakes about direct moves.
+fn miscountings() -> Vec<String> {
+    on_each(&MISCOUNTINGS.map(|(name, _)| name))
 }
 
 impl Run {
@@ -93,22 +104,26 @@ impl Run {
     }
 
     fn tell_apart(&mut self, planned: &Planned, reports: &[Report; 2]) {
-        let Ok((day, least)) = planned else { return };
+        let Ok((day, plan)) = planned else { return };
         let [first_come, myopic] = reports;
         self.parted += usize::from(first_come != myopic);
         for (name, select) in MISREADINGS {
-            let misread = report(day, *least, &myopic_by(day, select));
+            let misread = report(day, plan, &myopic_by(day, select));
             self.told.note_if(misread != *myopic, name);
         }
         for (name, misplace) in MISPLACINGS {
-            let misread = report(day, *least, &misplace(day));
+            let misread = report(day, plan, &misplace(day));
             self.told.note_if(misread != *first_come, name);
         }
         for (baseline, report) in BASELINES.iter().zip(reports) {
             let slots = (baseline.slots)(day);
             for (name, misreport) in MISREPORTS {
-                let misread = misreport(day, *least, &slots);
+                let misread = misreport(day, plan, &slots);
                 self.told.note_if(misread != *report, &misreported(baseline.name, name));
+            }
+            for (name, miscount) in MISCOUNTINGS.iter().filter(|_| report.refusal == 0) {
+                let numbers = miscount(day, &complete(&slots)).numbers();
+                self.told.note_if(numbers != report.numbers, &misreported(baseline.name, name));
             }
         }
     }
@@ -128,7 +143,7 @@ impl Run {
             }
         }
         self.require(self.parted, "first come and myopic differ");
-        for name in misreadings() {
+        for name in misreadings().into_iter().chain(miscountings()) {
             self.require(self.told.count(&name), &name);
         }
     }
@@ -152,6 +167,11 @@ impl Run {
         println!("days on which a report would differ, were the papers misread:");
         for name in misreadings() {
             println!("{:>6} {name}", self.told.count(&name));
+        }
+        let miscounted = miscountings();
+        let counts = miscounted.iter().map(|name| (self.told.count(name), name));
+        if let Some((count, name)) = counts.min() {
+            println!("and of {} about direct moves at least {count}: {name}", miscounted.len());
         }
     }
 

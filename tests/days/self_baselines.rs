@@ -3,12 +3,12 @@
 
 use crate::day_file::read_day;
 use crate::groups::Tests;
-use crate::known::{BaselineDay, BASELINE_DAYS};
-use crate::known_sets::GROUPED_BASELINE_DAYS;
+use crate::known::BaselineDay;
 use crate::library::{planned, Report, BASELINES};
 use crate::misreadings::{earlier_left_out, group_first, group_passed_left_out, passed_leave};
 use crate::model::Day;
 use crate::procedures::{myopic_by, Point, Select, Set, Slots};
+use crate::texts::hand_made_days;
 
 /// P1's decision points in Table 2 of the source: the slot, the trains not yet
 /// scheduled and those scheduled in the slot, and for each of the former what
@@ -34,10 +34,6 @@ fn check_table_2(tests: &mut Tests) {
 /// 0 stands for no slot.
 fn shown(slots: Slots) -> Vec<usize> {
     slots.into_iter().map(Option::unwrap_or_default).collect()
-}
-
-fn hand_made_days() -> impl Iterator<Item = &'static BaselineDay> {
-    BASELINE_DAYS.iter().chain(&GROUPED_BASELINE_DAYS)
 }
 
 fn hand_made(name: &str) -> (Vec<u8>, Day) {

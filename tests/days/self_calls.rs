@@ -10,6 +10,7 @@ use crate::header::{prototypes, VERSION};
 use crate::known::{day_text, KnownDay, KNOWN_DAYS, P1_MOVES, P1_TRAINS};
 use crate::known_sets::GROUPED_DAYS;
 use crate::lent::{lent_text, Lent, Marks};
+use crate::model::Numbers;
 use crate::valuing::valued;
 
 fn known(name: &str) -> Vec<u8> {
@@ -40,7 +41,7 @@ fn check_valuing(tests: &mut Tests) {
         tests.check(found == wanted, &format!("{slots:?}: {found:?}, but 01 says {wanted:?}"));
     }
     let found = valued(&day, &[2, 1, 1, 2]);
-    let wanted = Outcome { refusal: 0, numbers: [1, 15, 16] };
+    let wanted = Outcome { refusal: 0, numbers: [1, 15, 1, 16] };
     tests.check(found == wanted, &format!("P2: {found:?}, but 01 says {wanted:?}"));
     // One track, and each of two slots holds two trains.
     let day = read_day(&day_text("4 1 2 1 1", P1_TRAINS, P1_MOVES)).expect("a good day");
@@ -50,21 +51,21 @@ fn check_valuing(tests: &mut Tests) {
 
 /// The text, whether memory enough is lent, and how many numbers; the refusal,
 /// the numbers and how many slots are written.
-type Planning = (&'static str, bool, usize, usize, [usize; 3], usize);
+type Planning = (&'static str, bool, usize, usize, Numbers, usize);
 
 const PLANNINGS: [Planning; 12] = [
-    ("P1", true, 3, 0, [1, 7, 8], 4),
-    ("P1", false, 3, 10, [0, 0, 0], 0),
-    ("P1", true, 2, 10, [0, 0, 0], 0),
-    ("P9", true, 3, 9, [1, 1, 3], 0),
-    ("P9", false, 3, 10, [0, 0, 0], 0),
-    ("P9", true, 0, 10, [0, 0, 0], 0),
-    ("a group larger than G", true, 3, 16, [0, 0, 0], 0),
-    ("a group larger than G", false, 3, 10, [0, 0, 0], 0),
-    ("a group larger than G", true, 2, 10, [0, 0, 0], 0),
-    ("none", true, 5, 1, [1, 0, 0], 0),
-    ("none", false, 5, 1, [1, 0, 0], 0),
-    ("none", false, 2, 10, [0, 0, 0], 0),
+    ("P1", true, 4, 0, [1, 7, 9, 8], 4),
+    ("P1", false, 4, 10, [0, 0, 0, 0], 0),
+    ("P1", true, 3, 10, [0, 0, 0, 0], 0),
+    ("P9", true, 4, 9, [1, 1, 3, 0], 0),
+    ("P9", false, 4, 10, [0, 0, 0, 0], 0),
+    ("P9", true, 0, 10, [0, 0, 0, 0], 0),
+    ("a group larger than G", true, 4, 16, [0, 0, 0, 0], 0),
+    ("a group larger than G", false, 4, 10, [0, 0, 0, 0], 0),
+    ("a group larger than G", true, 3, 10, [0, 0, 0, 0], 0),
+    ("none", true, 6, 1, [1, 0, 0, 0], 0),
+    ("none", false, 6, 1, [1, 0, 0, 0], 0),
+    ("none", false, 3, 10, [0, 0, 0, 0], 0),
 ];
 
 fn check_planning(tests: &mut Tests) {
@@ -74,12 +75,12 @@ fn check_planning(tests: &mut Tests) {
         let holds = found == Outcome { refusal, numbers } && slots.len() == trains;
         tests.check(holds, &format!("{name}, {suffices}, {lent}: {found:?}, {slots:?}"));
         let written = found.written(lent).len();
-        tests.check(written == if lent < 3 { 0 } else { 3 }, "numbers too few are written");
+        tests.check(written == if lent < 4 { 0 } else { 4 }, "numbers too few are written");
     }
     // 01's example of 10: 15 cost words, n = 4.
     let need = Need::of(4, 2);
-    tests.check(need.met_by((16, 32, 4, 3)), "P1's areas don't suffice");
-    for short in [(15, 32, 4, 3), (16, 31, 4, 3), (16, 32, 3, 3)] {
+    tests.check(need.met_by((16, 32, 4, 4)), "P1's areas don't suffice");
+    for short in [(15, 32, 4, 4), (16, 31, 4, 4), (16, 32, 3, 4)] {
         tests.check(!need.met_by(short), &format!("{short:?} suffices for P1"));
     }
 }
@@ -116,7 +117,7 @@ fn check_lent(tests: &mut Tests) {
 }
 
 fn check_header(tests: &mut Tests) {
-    tests.check(VERSION > 0, "yard.h has version 0");
+    tests.check(VERSION == 3, "yard.h has another version than that of four numbers");
     let first = prototypes().first().cloned().unwrap_or_default();
     tests.check(first == "yard_version(void)", &format!("yard.h begins with {first}"));
 }

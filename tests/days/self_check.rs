@@ -5,18 +5,20 @@ use crate::draw::{draw_day, Random, DAMAGED_MOST};
 use crate::groups::Tests;
 use crate::heavy::slot_costs;
 use crate::known::{
-    day_text, Known, EDGES, KNOWN_DAYS, KNOWN_VALUES, P1_MOVES, P1_TRAINS, SMALL_INPUTS, TEXTS,
+    day_text, Known, KnownValue, EDGES, KNOWN_DAYS, KNOWN_VALUES, P1_MOVES, P1_TRAINS,
+    SMALL_INPUTS, TEXTS,
 };
 use crate::model::{
-    rank, value, within_tracks, within_windows, Value, MOST_BYTES_ACCEPTED, MOST_BYTES_PRINTED,
+    rank, value, within_tracks, within_windows, MOST_BYTES_ACCEPTED, MOST_BYTES_PRINTED,
     MOST_BYTES_READ, MOST_BYTES_UNGROUPED,
 };
-use crate::plan::{answer, best, expected, Answer};
+use crate::plan::{allowed, answer, best, expected, Answer};
 use crate::self_baselines::check_baselines;
 use crate::self_calls::check_calls;
+use crate::self_direct::check_direct;
 use crate::self_sets::check_sets;
 use crate::self_ties::check_ties;
-use crate::special::{dearest_day, greatest_day, greatest_ungrouped, last_move, padded};
+use crate::special::{greatest_day, greatest_ungrouped, last_move, longest_plan_day, padded};
 
 /// 01's two files of case P1, as it prints them.
 const P1_FILE: &str = "trains tracks slots revisit split
@@ -33,13 +35,30 @@ to from boxes
 4 2 6
 4 3 1
 ";
-const P1_PLAN: &str = "revisits splits cost\n1 7 8\ntrain slot\n1 2\n2 1\n3 2\n4 1\n";
+const P1_PLAN: &str = "revisits splits direct cost\n1 7 9 8\ntrain slot\n1 2\n2 1\n3 2\n4 1\n";
+
+/// The greatest plan file: by order 6 28, 26, 11 and twelve times 8 bytes.
+const LONGEST_PLAN: &str = "revisits splits direct cost
+11 20910 12750 1371057735
+train slot
+99988 2
+99989 2
+99990 2
+99991 2
+99992 2
+99993 1
+99994 1
+99995 1
+99996 1
+99997 1
+99998 1
+99999 3
+";
 
 fn agrees(answer: &Answer, known: &Known) -> bool {
     match (answer, known) {
         (Answer::Plan(plan), Known::Best(slots, numbers)) => {
-            let Value { revisits, splits, cost } = plan.value;
-            plan.assignment == *slots && [revisits, splits, cost] == *numbers
+            plan.assignment == *slots && plan.value.numbers() == *numbers
         }
         (Answer::Overbooked(found), Known::Overbooked(numbers)) => {
             [found.first, found.last, found.bound] == *numbers
@@ -64,15 +83,18 @@ impl Tests<'_> {
         let answer = answer(text);
         self.check(agrees(&answer, known), &format!("{name}: {answer:?}, but 01 says {known:?}"));
     }
+
+    pub fn check_value(&mut self, known: &KnownValue) {
+        let KnownValue { name, slots, numbers, .. } = known;
+        let day = read_day(&known.text()).expect("a good day");
+        let found = value(&day, slots).numbers();
+        let what = format!("{name}, {slots:?}: {found:?}, but 01 says {numbers:?}");
+        self.check(found == *numbers && within_windows(&day, slots) && allowed(&day, slots), &what);
+    }
 }
 
 fn check_values(tests: &mut Tests) {
-    for (name, head, slots, numbers) in KNOWN_VALUES {
-        let day = read_day(&day_text(head, P1_TRAINS, P1_MOVES)).expect("a good day");
-        let Value { revisits, splits, cost } = value(&day, &slots);
-        let found = [revisits, splits, cost];
-        tests.check(found == numbers, &format!("{name}: {found:?}, but 01 says {numbers:?}"));
-    }
+    KNOWN_VALUES.iter().for_each(|known| tests.check_value(known));
     let day = read_day(&day_text("4 2 2 0 1", P1_TRAINS, P1_MOVES)).expect("a good day");
     let precedes = |one: &[usize], other: &[usize]| rank(&day, one) < rank(&day, other);
     tests.check(precedes(&[2, 1, 2, 1], &[1, 2, 1, 2]), "P4: the later row comes first");
@@ -91,6 +113,9 @@ fn check_printing(tests: &mut Tests) {
     let overbooked = print(&KNOWN_DAYS[6].text());
     let wanted = "refusal first last trains\n9 1 1 3\n";
     tests.check(overbooked == wanted, "refusal 9 is printed otherwise");
+    let longest = print(&write_day(&longest_plan_day()));
+    tests.check(longest == LONGEST_PLAN, "the greatest plan file is printed otherwise");
+    tests.check(longest.len() == MOST_BYTES_PRINTED, "the greatest plan file has another length");
 }
 
 /// What the slots cost adds up to the cost; six trains that receive from six
@@ -111,7 +136,7 @@ fn check_slot_costs(tests: &mut Tests) {
 
 /// 12 trains pass and 13 don't; the greatest files have their lengths.
 fn check_sizes(tests: &mut Tests) {
-    for (count, known) in [(12, Known::Best(&[1; 12], [0; 3])), (13, Known::Refused(3, 2))] {
+    for (count, known) in [(12, Known::Best(&[1; 12], [0; 4])), (13, Known::Refused(3, 2))] {
         let trains: Vec<String> = (1..=count).map(|number| format!("{number} 1 1")).collect();
         let trains: Vec<&str> = trains.iter().map(String::as_str).collect();
         let text = day_text(&format!("{count} 12 1 1 1"), &trains, &[]);
@@ -131,8 +156,6 @@ fn check_sizes(tests: &mut Tests) {
     tests.check_text("no byte 10 after the moves", unended, &Known::Refused(2, 148));
     let longer = padded(&ungrouped, last_move().as_bytes(), 2 * MOST_BYTES_READ);
     tests.check_text("a 133rd move", &longer, &Known::Refused(7, 149));
-    let plan = expected(&write_day(&dearest_day()));
-    tests.check(plan.len() == MOST_BYTES_PRINTED, "the greatest plan file has another length");
 }
 
 pub fn check_self() -> bool {
@@ -151,5 +174,6 @@ pub fn check_self() -> bool {
     check_calls(&mut tests);
     check_sets(&mut tests);
     check_ties(&mut tests);
+    check_direct(&mut tests);
     tests.finish()
 }

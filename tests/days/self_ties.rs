@@ -1,14 +1,15 @@
-//! Mode self, its part on the order of plans (order 5): known days, what is
-//! drawn, and that both tell each mistake from the paper.
+//! Mode self, its part on the order of plans (order 5, which order 6 leaves as it
+//! is): known days, what is drawn, and that both tell each mistake from the paper.
 
 use crate::day_file::read_day;
 use crate::groups::Tests;
-use crate::known_ties::TIED_DAYS;
+use crate::known_direct::DIRECT_TIES;
+use crate::known_ties::{TiedDay, TIED_DAYS};
 use crate::misorderings::{try_all, Tried, MISORDERINGS};
 use crate::model::{Day, MOST_TRAINS};
 use crate::plan::best;
 use crate::sets::has_groups;
-use crate::texts::tied_days;
+use crate::texts::{direct_days, tied_days};
 
 /// The allowed assignments of least cost, of these the ones of fewest revisits,
 /// and of these the ones of the smallest sum.
@@ -121,7 +122,7 @@ fn drawn_kinds(day: &Day, sifted: &Sifted) -> [bool; DRAWN.len()] {
 fn check_drawn(tests: &mut Tests) {
     let mut counts = [0; DRAWN.len()];
     let mut told = [0; MISORDERINGS.len()];
-    for (seed, day) in tied_days() {
+    for (seed, day) in tied_days().chain(direct_days()) {
         let Some(plan) = best(&day) else { continue };
         let all = try_all(&day);
         let sifted = Sifted::new(&all);
@@ -146,10 +147,14 @@ fn check_drawn(tests: &mut Tests) {
     }
 }
 
+fn known_ties() -> impl Iterator<Item = &'static TiedDay> {
+    TIED_DAYS.iter().chain(&DIRECT_TIES)
+}
+
 /// The known days have the plans that they say, and the order of those of least
 /// cost.
 fn check_known(tests: &mut Tests) {
-    for tied in &TIED_DAYS {
+    for tied in known_ties() {
         tests.check_text(tied.day.name, &tied.day.text(), &tied.day.outcome);
         let day = read_day(&tied.day.text()).expect("a good day");
         let all = try_all(&day);
@@ -163,8 +168,8 @@ fn check_known(tests: &mut Tests) {
 
 /// Each mistake has to show on a known day.
 fn check_mistakes(tests: &mut Tests) {
-    let days = TIED_DAYS.map(|tied| read_day(&tied.day.text()).expect("a good day"));
-    let tried = days.map(|day| (try_all(&day), day));
+    let days = known_ties().map(|tied| read_day(&tied.day.text()).expect("a good day"));
+    let tried: Vec<(Vec<Tried>, Day)> = days.map(|day| (try_all(&day), day)).collect();
     for (name, misorder) in MISORDERINGS {
         let told =
             |(all, day): &(Vec<Tried>, Day)| misorder(day, all) != Sifted::new(all).first(day);

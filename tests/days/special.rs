@@ -62,6 +62,38 @@ pub fn dearest_day() -> Day {
     day
 }
 
+/// All boxes direct moves: the windows of all trains begin in one slot, which
+/// has a track for each.
+pub fn gathered_day() -> Day {
+    let mut day = greatest_ungrouped();
+    for (position, train) in day.trains.iter_mut().enumerate() {
+        (train.first, train.last) = (2, 2 + position % 2);
+    }
+    day
+}
+
+/// Places for just all trains in two slots of six tracks.
+pub fn halved_day() -> Day {
+    let mut day = greatest_ungrouped();
+    (day.tracks, day.slots) = (6, 2);
+    for train in &mut day.trains {
+        (train.first, train.last) = (1, 2);
+    }
+    day
+}
+
+/// The day of the greatest plan file: train numbers, split moves and direct moves
+/// of five digits each, revisits of two and a cost of ten. The last train is
+/// alone in the last slot, so that all others come back; these have two slots.
+pub fn longest_plan_day() -> Day {
+    let mut day = halved_day();
+    day.slots = 3;
+    if let Some(last) = day.trains.last_mut() {
+        (last.first, last.last) = (3, 3);
+    }
+    day
+}
+
 /// The text, then `unit` again and again up to the wanted length.
 pub fn padded(text: &[u8], unit: &[u8], length: usize) -> Vec<u8> {
     let padding = unit.iter().copied().cycle();

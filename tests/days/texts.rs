@@ -4,10 +4,12 @@
 use crate::damage::draw_damaged;
 use crate::day_file::{read_day, write_day};
 use crate::draw::{draw_day, draw_grouped, draw_sound, Random, DAMAGED_MOST};
+use crate::draw_direct::draw_direct;
 use crate::draw_ties::{draw_changed, draw_tied};
 use crate::heavy::{draw_shown, SHOWN_BITS};
-use crate::known::{EDGES, KNOWN_DAYS, SMALL_INPUTS, TEXTS};
-use crate::known_sets::{GROUPED_DAYS, GROUP_EDGES, GROUP_TEXTS};
+use crate::known::{BaselineDay, BASELINE_DAYS, EDGES, KNOWN_DAYS, SMALL_INPUTS, TEXTS};
+use crate::known_direct::{DIRECT_BASELINE_DAYS, DIRECT_DAYS, DIRECT_TIES, GREAT_DAYS};
+use crate::known_sets::{GROUPED_BASELINE_DAYS, GROUPED_DAYS, GROUP_EDGES, GROUP_TEXTS};
 use crate::known_ties::TIED_DAYS;
 use crate::model::Day;
 use crate::plan::broken;
@@ -18,6 +20,7 @@ const SOUND_DAYS: usize = 2500;
 const GROUPED_DAYS_DRAWN: usize = 1500;
 const TIED_DAYS_DRAWN: usize = 900;
 const CHANGED_DAYS: usize = 700;
+const DIRECT_DAYS_DRAWN: usize = 400;
 const DAMAGED_TEXTS: usize = 4000;
 const HEAVY_DAYS: usize = 8;
 const PIECED_TEXTS: usize = 24;
@@ -29,6 +32,7 @@ const HEAVY_SEED: u64 = 8_000_000;
 const GROUPED_SEED: u64 = 11_000_000;
 const TIED_SEED: u64 = 13_000_000;
 const CHANGED_SEED: u64 = 14_000_000;
+const DIRECT_SEED: u64 = 15_000_000;
 
 /// How to find a text again, and the text.
 pub type Named = (String, Vec<u8>);
@@ -36,10 +40,17 @@ pub type Named = (String, Vec<u8>);
 pub fn known_texts() -> impl Iterator<Item = Named> {
     let days = KNOWN_DAYS.iter().chain(&SMALL_INPUTS).chain(&EDGES);
     let days = days.chain(&GROUPED_DAYS).chain(&GROUP_EDGES);
-    let days = days.chain(TIED_DAYS.iter().map(|tied| &tied.day));
-    let days = days.map(|day| (day.name.to_string(), day.text()));
+    let days = days.chain(TIED_DAYS.iter().chain(&DIRECT_TIES).map(|tied| &tied.day));
+    let days = days.chain(&DIRECT_DAYS).map(|day| (day.name.to_string(), day.text()));
     let texts = TEXTS.iter().chain(&GROUP_TEXTS);
-    days.chain(texts.map(|(name, text, _)| (name.to_string(), text.as_bytes().to_vec())))
+    let texts = texts.map(|(name, text, _)| (name.to_string(), text.as_bytes().to_vec()));
+    let great = GREAT_DAYS.iter().map(|great| (great.name.to_string(), write_day(&(great.day)())));
+    days.chain(texts).chain(great)
+}
+
+/// Days made for the baselines.
+pub fn hand_made_days() -> impl Iterator<Item = &'static BaselineDay> {
+    BASELINE_DAYS.iter().chain(&GROUPED_BASELINE_DAYS).chain(&DIRECT_BASELINE_DAYS)
 }
 
 /// The text of a drawn day, which has to read back as that day.
@@ -75,6 +86,16 @@ pub fn tied_days() -> impl Iterator<Item = (u64, Day)> {
 
 pub fn tied_texts() -> impl Iterator<Item = Named> {
     tied_days().map(|(seed, day)| drawn(seed, &day))
+}
+
+/// Days with direct moves, with their seeds: mode self holds that they have them.
+pub fn direct_days() -> impl Iterator<Item = (u64, Day)> {
+    let seeds = (DIRECT_SEED..).take(DIRECT_DAYS_DRAWN);
+    seeds.map(|seed| (seed, draw_direct(&mut Random(seed))))
+}
+
+pub fn direct_texts() -> impl Iterator<Item = Named> {
+    direct_days().map(|(seed, day)| drawn(seed, &day))
 }
 
 /// For each width days on which a sum of so many bits would show.

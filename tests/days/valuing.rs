@@ -1,5 +1,5 @@
 //! Valuing any bytes as a row of slots (01, The calls): refusals 11, 12, 13 and
-//! by order 4 of 02 17, in this order, or the model's three numbers.
+//! by order 4 of 02 17, in this order, or the model's four numbers.
 
 use crate::case::Outcome;
 use crate::model::{value, within_windows, Day};

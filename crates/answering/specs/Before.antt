@@ -2,7 +2,7 @@
 -- the text reads to the same day, which has no groups; the answer has the bytes that those limits give (`same-bytes`); and these are what
 -- was promised before groups (`as-before`): the plan file of a row that fits, than which no fitting row is cheaper and none of equal cost
 -- comes before it, or refusal 9. Which row comes before another is since order 5 what that order says (`same-cost`, `same-plan` of
--- model's Foremost.antt).
+-- model's Foremost.antt), and since order 6 the plan file tells direct moves too.
 -- Assumes nothing.
 use mathlib.Core.Path.{_≡_, sym, ap, _∙_, subst}
 use mathlib.Core.List.{List, [], _∷_}

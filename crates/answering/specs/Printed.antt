@@ -1,5 +1,5 @@
 -- The theorem at the door: what yard-plan prints, in the model's own words. For every text it is one of four:
---     the plan file of the best row of the day that the text reads to, with the model's three numbers;
+--     the plan file of the best row of the day that the text reads to, with the model's four numbers;
 --     refusal 9 with the first overbooked interval of that day, which has no allowed row, and the number of trains bound inside;
 --     refusal 16 with 0, where that day has no allowed row and no interval is overbooked;
 --     a refusal, 1 to 7 or 15, with its line, where the text reads to no day.

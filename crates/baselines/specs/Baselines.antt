@@ -1,5 +1,5 @@
 -- What the two calls of order 1 of document 02 (its yardsticks) answer, for any record and any areas: planning's refusals 8, 10, 9 and 16,
--- then 14 with the lowest position that is left without a slot, then 14 with 0 where a group is parted, else the three numbers of the
+-- then 14 with the lowest position that is left without a slot, then 14 with 0 where a group is parted, else the four numbers of the
 -- procedure's row and the saving.
 -- Assumes nothing.
 use mathlib.Core.List.{List}

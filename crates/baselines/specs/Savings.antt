@@ -1,8 +1,9 @@
 -- What the answers of the two calls mean, from their contracts and the model alone, on any day and with any areas.
 --   complete-judged    a procedure's row that leaves no train without a slot is allowed on a sound day, or gets 14 with 0;
 --   incomplete-judged  a row that leaves one without gets 14 with the lowest such position, whatever the groups;
---   saves              where three numbers and a saving are given, the procedure's row is allowed, they are the model's, and the saving is
+--   saves              where four numbers and a saving are given, the procedure's row is allowed, they are the model's, and the saving is
 --                      what the row costs more than the best plan: never below zero;
+--   compared-boxes     and its direct and split moves are all boxes of the day;
 --   planned-before     where 14 is given the day has a plan;
 --   compared-only      on a sound day, in areas that suffice, a refusal is 9, 16 or 14;
 --   refused-zeros      with a refusal all numbers are 0;
@@ -20,6 +21,7 @@ use lib.ListN.{length, drop}
 use borrow.Author.Tests.{eq-eqb, ne-eqb}
 use Rattle.fold.specs.Test.{of-true, is-false, test}
 use Rattle.model.specs.Model.{Yard, Outcome, outcome, cost, fitting, kept, allowed, Best}
+use Rattle.model.specs.Moves.{AllMoved, all-moved}
 use Rattle.model.specs.Rows.{fits-allowed}
 use Rattle.day.specs.Answer.{Answer, gives, refuses, code, onGiven}
 use Rattle.day.specs.AnswerLaws.{gives-same, checked-gives, given-before, Only, only-given, only-checked, only-wider}
@@ -95,6 +97,14 @@ module _ (l : Limits) (y : Yard) (costs choices : ℕ) where
             ∙ above-zero (cost y row) (cost y (best .row)) saved above;
       }
 
+  -- order 6: of the procedure's row direct and split moves are all boxes of the day
+  pub compared-boxes : (row : List ℕ) (c : Comparison) → compared l y row costs choices ≡ gives c → AllMoved y (c .outcome)
+  unfolding compared against
+  compared-boxes row c e =
+      let (o, q, f) = given-before (planned l y costs choices (y .trains)) (λ best. against y row (best .cost)) c e in
+      let (h, g) = checked-gives (servedChecks y row) (gives record { outcome = outcome y row; saving = pos (cost y row) -ℤ pos (o .cost) }) c f in
+      subst (AllMoved y) (ap (λ (x : Comparison). x .outcome) (gives-same g)) (all-moved y row)
+
   pub planned-before : (row carries : List ℕ) → compared l y row costs choices ≡ refuses 14 carries → (plan : List ℕ) × Best y plan
   unfolding compared
   planned-before row carries = go (planned l y costs choices (y .trains)) refl
@@ -112,7 +122,7 @@ module _ (l : Limits) (y : Yard) (costs choices : ℕ) where
       λ best e. only-checked ComparedRefusal (servedChecks y row) (gives record { outcome = outcome y row; saving = pos (cost y row) -ℤ pos (best .cost) }) (inr refl, (inr refl, tt)) tt
 
   pub refused-zeros : (row : List ℕ) (k : ℕ) (carries : List ℕ) → compared l y row costs choices ≡ refuses k carries
-      → comparisonOrZero (compared l y row costs choices) ≡ record { outcome = figures 0 0 0; saving = pos 0 }
+      → comparisonOrZero (compared l y row costs choices) ≡ record { outcome = figures 0 0 0 0; saving = pos 0 }
   refused-zeros row k carries e = ap comparisonOrZero e
 
 -- ---- the two areas after the call

@@ -1,5 +1,5 @@
 -- What a row of slots comes to beside the planned cost: 14 with the lowest position that is left without a slot, then 14 with 0 where the row
--- parts a group (order 4 of document 02), else its three numbers and the saving.
+-- parts a group (order 4 of document 02), else its four numbers and the saving.
 -- Assumes nothing.
 use mathlib.Core.Path.{_≡_}
 use mathlib.Core.List.{List, [], _∷_}
@@ -12,7 +12,7 @@ use Rattle.counting.specs.Counting.{outcomeOf, noOutcome}
 use Rattle.procedures.specs.Procedures.{leftOver}
 use Rattle.comparing.specs.declared.Baseline.{Baseline}
 
--- a row's three numbers, and its cost less the planned cost
+-- a row's four numbers, and its cost less the planned cost
 pub record Comparison : Type 0 where
   pub outcome : Outcome
   pub saving : ℤ

@@ -1,4 +1,4 @@
-// Comparing a row of slots with the planned cost (document 02, order 1): its three numbers and the saving, or refusal 14.
+// Comparing a row of slots with the planned cost (document 02, order 1): its four numbers and the saving, or refusal 14.
 //
 // Proved: `compare` says `against` of specs/Comparing.antt, with zeros beside a refusal. Assumes nothing.
 ghost use Prim.Native.Nat.{_≤_, _<_, _^_};
@@ -13,7 +13,7 @@ use day::Day;
 use day::Refusal;
 use day::Verdict;
 
-// The three numbers of a procedure's row, and the saving, its cost less the planned cost; zeros with a refusal.
+// The four numbers of a procedure's row, and the saving, its cost less the planned cost; zeros with a refusal.
 pub struct Baseline {
     pub verdict: Verdict,
     pub value: Value,

@@ -1,4 +1,4 @@
--- The code's three numbers of a row as the model's outcome.
+-- The code's four numbers of a row as the model's outcome.
 -- Assumes nothing.
 use mathlib.Core.Path.{_≡_, refl}
 use mathlib.Core.List.{List}
@@ -8,19 +8,19 @@ use Rattle.model.specs.Model.{Outcome, slotOf, outsideBoxes, splitBoxes, splits
 use Rattle.counting.specs.declared.Value.{Value}
 
 -- an outcome of its numbers, in the order of the plan file's names line
-abbrev pub figures : ℕ → ℕ → ℕ → Outcome
-figures revisits splits cost = record { revisits = revisits; splits = splits; cost = cost }
+abbrev pub figures : ℕ → ℕ → ℕ → ℕ → Outcome
+figures revisits splits direct cost = record { revisits = revisits; splits = splits; direct = direct; cost = cost }
 
 abbrev pub outcomeOf : Value → Outcome
-outcomeOf v = figures (v .revisits .0) (v .splits .0) (v .cost)
+outcomeOf v = figures (v .revisits .0) (v .splits .0) (v .direct .0) (v .cost)
 
 -- what stands beside a refusal
 abbrev pub noOutcome : Outcome
-noOutcome = figures 0 0 0
+noOutcome = figures 0 0 0 0
 
 -- outcomes are equal where their numbers are
-pub same-figures : {a b : Outcome} → a .revisits ≡ b .revisits → a .splits ≡ b .splits → a .cost ≡ b .cost → a ≡ b
-same-figures r s c = λ i. figures (r i) (s i) (c i)
+pub same-figures : {a b : Outcome} → a .revisits ≡ b .revisits → a .splits ≡ b .splits → a .direct ≡ b .direct → a .cost ≡ b .cost → a ≡ b
+same-figures r s d c = λ i. figures (r i) (s i) (d i) (c i)
 
 -- the split moves of the boxes that train i receives are those from outside its own slot
 pub split-outside : (n : ℕ) (a : ℕ → ℕ → ℕ) (row : List ℕ) (i : ℕ) → sum n (outsideBoxes a row (slotOf row i) i) ≡ splitsTo n a row i

@@ -1,4 +1,5 @@
-// What a row of slots comes to: the number of revisits, the number of split moves, their weighted sum, and a slot's trains as one mask.
+// What a row of slots comes to: the number of revisits, the number of split moves, their weighted sum, the number of direct moves, and a
+// slot's trains as one mask.
 //
 // Proved: each function is its definition in Model.antt, over slices, a width and numbers, so that days of every size use it. Assumes
 // nothing.
@@ -6,14 +7,17 @@ ghost use mathlib.Core.Path.{_≡_};
 ghost use Prim.Native.Nat.{_≤_, _<_, _*_};
 ghost use lib.ListN.{length};
 ghost use Rattle.fold.specs.Fold.{sum};
-ghost use Rattle.model.specs.Model.{cell, lateSupplier, revisiting, revisits, outsideBoxes, splits, weighed, weighedCounts, slotMask};
+ghost use Rattle.model.specs.Model.{cell, lateSupplier, revisiting, revisits, outsideBoxes, splits, directBoxes, directTo, direct, weighed, rowOutcome, slotMask};
 ghost use Rattle.counting.specs.Given.{Given, GivenPair};
 ghost use Rattle.counting.specs.Counting.{outcomeOf, noOutcome};
 
-// The two counts of the model, a number type each. Outside this crate a count is opened by its own opener alone; only `weigh` opens both.
+// The model's two counts and order 6's, a number type each. Outside this crate a count is opened by its own opener alone; only `weigh` opens
+// two, revisits and split moves. Direct moves are not weighed.
 pub struct Revisits(u64);
 
 pub struct Splits(u64);
+
+pub struct Direct(u64);
 
 impl Revisits {
     pub fn count(self) -> u64
@@ -31,9 +35,18 @@ impl Splits {
     }
 }
 
+impl Direct {
+    pub fn count(self) -> u64
+        ensures { λ r. ⌜ r ≡ self .0 ⌝ }
+    {
+        self.0
+    }
+}
+
 pub struct Value {
     pub revisits: Revisits,
     pub splits: Splits,
+    pub direct: Direct,
     pub cost: u64,
 }
 
@@ -44,6 +57,7 @@ pub fn zero_value() -> Value
     Value {
         revisits: Revisits(0),
         splits: Splits(0),
+        direct: Direct(0),
         cost: 0,
     }
 }
@@ -117,6 +131,41 @@ pub fn count_splits(boxes: &[u8], width: usize, row: &[u8], n: usize) -> Splits
     Splits(total)
 }
 
+// The boxes that train i receives from train j, where they are in the same slot.
+fn direct_boxes(boxes: &[u8], width: usize, row: &[u8], i: usize, j: usize) -> u64
+    requires { ⌜ GivenPair width (now boxes) (now row) i j ⌝ }
+    ensures { λ r. ⌜ (r ≡ directBoxes (cell width (now (boxes .entry))) (now (row .entry)) i j) × (r ≤ 255) ⌝ }
+{
+    if row[i] == row[j] {
+        day::wide8(day::cell_at(boxes, width, i, j))
+    } else {
+        0
+    }
+}
+
+// The boxes that train i receives from trains of its own slot.
+fn direct_to(boxes: &[u8], width: usize, row: &[u8], n: usize, i: usize) -> u64
+    requires { ⌜ Given n width (now boxes) (now row) × (i < n) ⌝ }
+    ensures { λ r. ⌜ (r ≡ directTo n (cell width (now (boxes .entry))) (now (row .entry)) i) × (r ≤ 16320) ⌝ }
+{
+    let mut total: u64 = 0;
+    for j in 0..n {
+        total += direct_boxes(boxes, width, row, i, j);
+    }
+    total
+}
+
+pub fn count_direct(boxes: &[u8], width: usize, row: &[u8], n: usize) -> Direct
+    requires { ⌜ Given n width (now boxes) (now row) ⌝ }
+    ensures { λ r. ⌜ r .0 ≡ direct n (cell width (now (boxes .entry))) (now (row .entry)) ⌝ }
+{
+    let mut total: u64 = 0;
+    for i in 0..n {
+        total += direct_to(boxes, width, row, n, i);
+    }
+    Direct(total)
+}
+
 // The cost, equation (1).
 fn weigh(revisit: u32, split: u32, revisits: Revisits, splits: Splits) -> u64
     requires { ⌜ (revisits .0 ≤ 64) × (splits .0 ≤ 1044480) ⌝ }
@@ -139,7 +188,7 @@ pub fn slot_mask(row: &[u8], n: usize, t: u8) -> u64
     mask
 }
 
-// The three numbers of a row.
+// The four numbers of a row.
 pub fn value_slots(
     boxes: &[u8],
     width: usize,
@@ -149,13 +198,14 @@ pub fn value_slots(
     split: u32,
 ) -> Value
     requires { ⌜ Given n width (now boxes) (now row) ⌝ }
-    ensures { λ r. ⌜ outcomeOf r ≡ weighedCounts revisit split (revisits n (cell width (now (boxes .entry))) (now (row .entry))) (splits n (cell width (now (boxes .entry))) (now (row .entry))) ⌝ }
+    ensures { λ r. ⌜ outcomeOf r ≡ rowOutcome revisit split n (cell width (now (boxes .entry))) (now (row .entry)) ⌝ }
 {
     let revisits = count_revisits(boxes, width, row, n);
     let splits = count_splits(boxes, width, row, n);
     Value {
         revisits: revisits,
         splits: splits,
+        direct: count_direct(boxes, width, row, n),
         cost: weigh(revisit, split, revisits, splits),
     }
 }

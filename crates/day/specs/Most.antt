@@ -1,32 +1,32 @@
--- The greatest numbers that a row of a sound day can have: every train revisits, and all boxes between different trains are split moves,
--- at the greatest weights. With document 01's limits no row costs more than 2,206,694,520. Stated over any limits.
+-- The greatest numbers that a row of a sound day can have: every train revisits, and all boxes, of which no train receives one from itself,
+-- are split moves, at the greatest weights. With document 01's limits no row costs more than 2,206,694,520. Stated over any limits.
 -- Assumes nothing.
 use mathlib.Core.Path.{_≡_, refl}
-use mathlib.Core.Bool.{Bool, true, false, cond}
 use mathlib.Core.List.{List}
 use mathlib.Core.Logic.{⊎-elim}
-use Prim.Native.Nat.{ℕ, zero, suc, _+_, _-_, _*_, _≤_, _<_, zero-le}
+use Prim.Native.Nat.{ℕ, zero, suc, _+_, _-_, _*_, _≤_, _<_}
 use native.Mathlib.Nat.{le-trans, add-le-add, mul-le-mul, suc-mul, le-refl, le-of-suc-le-suc, eq-or-lt-of-le}
 use native.Mathlib.Omega.{arith}
-use lib.Dec.{T, eqb}
-use borrow.Author.Tests.{eq-eqb}
+use lib.Dec.{T}
 use Rattle.fold.specs.Fold.{sum}
 use Rattle.fold.specs.Sums.{sum-bound}
 use Rattle.fold.specs.Counting.{count-bound}
-use Rattle.model.specs.Model.{Yard, received, slotOf, revisiting, revisits, splitBoxes, splitsTo, splits, weighed, outcome, cost}
+use Rattle.model.specs.Model.{Yard, received, revisiting, revisits, allBoxes, weighed, outcome, cost}
+use Rattle.model.specs.Moves.{direct-boxes, splits-boxes}
 use Rattle.day.specs.Sound.{dayLimits, sound}
 use Rattle.day.specs.SoundLaws.{Sound, sound-is}
 use Rattle.day.specs.declared.Limits.{Limits}
 
 -- ---- the greatest numbers
 
-unfoldable pub mostSplits : Limits → ℕ
-mostSplits l = l .trains * ((l .trains - 1) * l .boxes)
+-- from each train to each other one
+unfoldable pub mostBoxes : Limits → ℕ
+mostBoxes l = l .trains * ((l .trains - 1) * l .boxes)
 
 unfoldable pub mostCost : Limits → ℕ
-mostCost l = weighed (l .weight) (l .weight) (l .trains) (mostSplits l)
+mostCost l = weighed (l .weight) (l .weight) (l .trains) (mostBoxes l)
 
--- ---- a train splits no box with itself
+-- ---- a train receives no box from itself
 
 -- where one of n terms is 0 and none is above B
 but-one : (n B : ℕ) (f : ℕ → ℕ) (i : ℕ) → i < n → f i ≡ 0 → ((j : ℕ) → j < n → f j ≤ B) → sum n f + B ≤ n * B
@@ -38,31 +38,18 @@ but-one (suc n) B f i h e b =
     (λ (l : i < n). omega (arith, suc-mul n B, b n (omega arith), but-one n B f i l e (λ j k. b j (omega arith))))
     (eq-or-lt-of-le (le-of-suc-le-suc h))
 
-module _ (n B : ℕ) (a : ℕ → ℕ → ℕ) (row : List ℕ) (limit : (i j : ℕ) → i < n → j < n → a i j ≤ B) where
-  split-most : (i j : ℕ) → i < n → j < n → splitBoxes a row i j ≤ B
-  unfolding splitBoxes
-  split-most i j h k = go (eqb (slotOf row i) (slotOf row j))
-    where
-      go : (b : Bool) → cond b 0 (a i j) ≤ B
-      go true = zero-le
-      go false = limit i j h k
-
-  split-self : (i : ℕ) → splitBoxes a row i i ≡ 0
-  unfolding splitBoxes
-  split-self i = rw (eq-eqb (slotOf row i) (slotOf row i) refl)
-
-  splits-to-most : (i : ℕ) → i < n → splitsTo n a row i ≤ (n - 1) * B
-  unfolding splitsTo
-  splits-to-most i h =
+module _ (n B : ℕ) (a : ℕ → ℕ → ℕ) (limit : (i j : ℕ) → i < n → j < n → a i j ≤ B) (own : (i : ℕ) → i < n → a i i ≡ 0) where
+  boxes-to-most : (i : ℕ) → i < n → sum n (a i) ≤ (n - 1) * B
+  boxes-to-most i h =
       let e : n ≡ suc (n - 1) = omega arith in
-      omega (arith, but-one n B (splitBoxes a row i) i h (split-self i) (λ j k. split-most i j h k), suc-mul (n - 1) B, ap-times e)
+      omega (arith, but-one n B (a i) i h (own i h) (λ j k. limit i j h k), suc-mul (n - 1) B, ap-times e)
     where
       ap-times : n ≡ suc (n - 1) → n * B ≡ suc (n - 1) * B
       ap-times e = cc
 
-  pub splits-most : splits n a row ≤ n * ((n - 1) * B)
-  unfolding splits
-  splits-most = sum-bound n ((n - 1) * B) (splitsTo n a row) splits-to-most
+  boxes-most : allBoxes n a ≤ n * ((n - 1) * B)
+  unfolding allBoxes
+  boxes-most = sum-bound n ((n - 1) * B) (λ i. sum n (a i)) boxes-to-most
 
 pub revisits-most : (n : ℕ) (a : ℕ → ℕ → ℕ) (row : List ℕ) → revisits n a row ≤ n
 unfolding revisits
@@ -74,11 +61,17 @@ module _ (l : Limits) (y : Yard) (row : List ℕ) (s : Sound l y) where
   pub sound-revisits : outcome y row .revisits ≤ l .trains
   sound-revisits = le-trans (revisits-most (y .trains) (received y) row) (s .trains .1)
 
-  pub sound-splits : outcome y row .splits ≤ mostSplits l
-  unfolding mostSplits
-  sound-splits =
+  pub sound-boxes : allBoxes (y .trains) (received y) ≤ mostBoxes l
+  unfolding mostBoxes
+  sound-boxes =
       let fewer : y .trains - 1 ≤ l .trains - 1 = omega (arith, s .trains .1) in
-      le-trans (splits-most (y .trains) (l .boxes) (received y) row (s .boxes)) (mul-le-mul (s .trains .1) (mul-le-mul fewer (le-refl (l .boxes))))
+      le-trans (boxes-most (y .trains) (l .boxes) (received y) (s .boxes) (s .own)) (mul-le-mul (s .trains .1) (mul-le-mul fewer (le-refl (l .boxes))))
+
+  pub sound-splits : outcome y row .splits ≤ mostBoxes l
+  sound-splits = le-trans (splits-boxes (y .trains) (received y) row) sound-boxes
+
+  pub sound-direct : outcome y row .direct ≤ mostBoxes l
+  sound-direct = le-trans (direct-boxes (y .trains) (received y) row) sound-boxes
 
   pub sound-cost : outcome y row .cost ≤ mostCost l
   unfolding mostCost weighed
@@ -87,7 +80,7 @@ module _ (l : Limits) (y : Yard) (row : List ℕ) (s : Sound l y) where
 -- ---- with the limits of 01
 
 pub day-most-cost : mostCost dayLimits ≡ 2206694520
-unfolding mostCost mostSplits weighed
+unfolding mostCost mostBoxes weighed
 day-most-cost = refl
 
 pub cost-most : (y : Yard) (row : List ℕ) → T (sound dayLimits y) → cost y row ≤ 2206694520

@@ -72,6 +72,7 @@ pub record Sound (l : Limits) (y : Yard) : Type 0 where
   pub numbers : (i : ℕ) → i < y .trains → (1 ≤ getD (y .numbers) i 0) × (getD (y .numbers) i 0 ≤ l .number)
   pub windows : (i : ℕ) → i < y .trains → (1 ≤ firstSlot y i) × (firstSlot y i ≤ lastSlot y i) × (lastSlot y i ≤ y .slots)
   pub boxes : (i j : ℕ) → i < y .trains → j < y .trains → received y i j ≤ l .boxes
+  pub own : (i : ℕ) → i < y .trains → received y i i ≡ 0
   pub groups : (i : ℕ) → i < y .trains → groupOf (y .groups) i ≤ l .groups
 
 module _ (l : Limits) (y : Yard) where
@@ -165,6 +166,16 @@ module _ (l : Limits) (y : Yard) where
       go true h = leb→le (received y i j) (l .boxes) h
       go false h = omega (arith, eqb→eq (received y i j) 0 h)
 
+  -- a train receives none from itself
+  pair-own : (i : ℕ) → T (pairSound l (y .trains) (y .width) (y .boxes) i i) → received y i i ≡ 0
+  unfolding pairSound
+  pair-own i t = go (ltb i (y .trains) && ltb i (y .trains)) (eqb i i) (eq-eqb i i refl) t
+    where
+      go : (b e : Bool) → e ≡ true → T (cond (b && not e) (leb (received y i i) (l .boxes)) (eqb (received y i i) 0)) → received y i i ≡ 0
+      go true true q h = eqb→eq (received y i i) 0 h
+      go false true q h = eqb→eq (received y i i) 0 h
+      go b false q h = absurd (of-true q)
+
   -- the fields of position i's row
   train-fields : T positions → (i : ℕ) → i < y .trains → i < l .trains
       → Within (trainRanges l (y .slots)) (trainRow (y .numbers) (y .first) (y .last) i) × (firstSlot y i ≤ lastSlot y i)
@@ -190,5 +201,6 @@ module _ (l : Limits) (y : Yard) where
             let ((number, (first, (last, u))), window) = train-fields p i h (below i h) in
             (first .0, window, last .1);
         boxes = λ i j a b. pair-limit i j (each-at (l .trains) _ (each-at (l .trains) _ boxes i (below i a)) j (below j b));
+        own = λ i a. pair-own i (each-at (l .trains) _ (each-at (l .trains) _ boxes i (below i a)) i (below i a));
         groups = λ i h. group-used i h (each-at (l .trains) _ groups i (below i h));
       }

@@ -1,7 +1,9 @@
 -- Days written by hand: windows and moves as document 01 lists them, padded to a day record.
 -- Assumes nothing.
+use mathlib.Core.Bool.{cond}
 use mathlib.Core.List.{List, [], _∷_, _++_}
-use Prim.Native.Nat.{ℕ, suc, _+_, _-_, _*_}
+use Prim.Native.Nat.{ℕ, suc, _+_, _-_, _*_, _/_, _%_}
+use lib.Dec.{eqb}
 use lib.ListN.{length, set, replicate}
 use Rattle.fold.specs.Listed.{listed}
 use Rattle.day.specs.declared.Day.{Day}
@@ -47,6 +49,16 @@ weightless n tracks slots moves = dayOf n tracks slots 0 0 (replicate n 1) (repl
 unfoldable pub fromTwelve : List Move
 unfolding listed
 fromTwelve = listed 11 λ i. move (suc i) 12 1
+
+-- eight of the pairs of four trains, each with another power of two
+unfoldable pub paired : List Move
+paired =
+    move 1 2 1 ∷ move 1 3 2 ∷ move 1 4 4 ∷ move 2 1 8 ∷ move 2 4 16 ∷ move 3 1 32 ∷ move 3 4 64 ∷ move 4 2 128 ∷ []
+
+-- 255 boxes to each of 12 trains from each other one
+unfoldable pub fullest : List Move
+unfolding listed
+fullest = listed 144 λ q. move (suc (q / 12)) (suc (q % 12)) (cond (eqb (q / 12) (q % 12)) 0 255)
 
 -- P1's day, its weights, and the first slot of train 4
 unfoldable pub paperDay : ℕ → ℕ → ℕ → Day

@@ -59,7 +59,7 @@ Holds (comparesIn costs choices procedure d a) = compared dayLimits (yard d) (pr
 -- ---- the test of a line
 
 unfoldable pub sameOutcome : Outcome → Outcome → Bool
-sameOutcome a b = eqb (a .revisits) (b .revisits) && eqb (a .splits) (b .splits) && eqb (a .cost) (b .cost)
+sameOutcome a b = eqb (a .revisits) (b .revisits) && eqb (a .splits) (b .splits) && eqb (a .direct) (b .direct) && eqb (a .cost) (b .cost)
 
 unfoldable pub sameInt : ℤ → ℤ → Bool
 sameInt (pos a) (pos b) = eqb a b
@@ -110,12 +110,14 @@ passes (comparesIn costs choices procedure d a) = sameAnswer sameComparison (com
 same-outcome : (a b : Outcome) → T (sameOutcome a b) → a ≡ b
 unfolding sameOutcome
 same-outcome a b t =
-    let (p, c) = both-of (eqb (a .revisits) (b .revisits) && eqb (a .splits) (b .splits)) (eqb (a .cost) (b .cost)) t in
+    let (q, c) = both-of (eqb (a .revisits) (b .revisits) && eqb (a .splits) (b .splits) && eqb (a .direct) (b .direct)) (eqb (a .cost) (b .cost)) t in
+    let (p, d) = both-of (eqb (a .revisits) (b .revisits) && eqb (a .splits) (b .splits)) (eqb (a .direct) (b .direct)) q in
     let (r, s) = both-of (eqb (a .revisits) (b .revisits)) (eqb (a .splits) (b .splits)) p in
     let re = eqb→eq (a .revisits) (b .revisits) r in
     let se = eqb→eq (a .splits) (b .splits) s in
+    let de = eqb→eq (a .direct) (b .direct) d in
     let ce = eqb→eq (a .cost) (b .cost) c in
-    same-figures re se ce
+    same-figures re se de ce
 
 same-int : (a b : ℤ) → T (sameInt a b) → a ≡ b
 unfolding sameInt

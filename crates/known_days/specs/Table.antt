@@ -1,5 +1,6 @@
 -- P1 to P13 of document 01, its edges and the refusals 8, 11, 12 and 13, days compared with the procedures of document 02's order 1, days
--- with the wagon sets of its order 4 and with ties that its order 5 decides, as one table, and the one theorem that every line holds:
+-- with the wagon sets of its order 4, with ties that its order 5 decides and with direct moves, its order 6, as one table, and the one theorem
+-- that every line holds:
 --     every-line : (l : Line) → List·Memᴰ l table → Holds l
 -- What a line says is `Holds` of Lines.antt. The checker computes one test over the whole table; `line-holds` turns a line's test into its
 -- statement. "The best plan" speaks of every row, through the enumeration of the model's Rows.antt, which is proved complete.
@@ -15,7 +16,7 @@ use Rattle.fold.specs.Table.{allPass, all-hold}
 use Rattle.fold.specs.Fold
 use Rattle.fold.specs.Fold.{sum, count, each, lowest}
 use Rattle.sets.specs.Mask.{mask}
-use Rattle.model.specs.Model.{Outcome, cost, fitting, grouped, apart, kept, parted, allowed, byKey, slotTotal, bySets, precedes, lateSupplier, revisiting, revisits, splitBoxes, splitsTo, splits, weighed, inSlots, inWindow, load, roomy, slotMask, lower, bound, exceeds, overbooked, inTime, outsideBoxes}
+use Rattle.model.specs.Model.{Outcome, cost, fitting, grouped, apart, kept, parted, allowed, byKey, slotTotal, bySets, precedes, lateSupplier, revisiting, revisits, splitBoxes, splitsTo, splits, directBoxes, directTo, direct, weighed, inSlots, inWindow, load, roomy, slotMask, lower, bound, exceeds, overbooked, inTime, outsideBoxes}
 use Rattle.model.specs.Rows.{allRows}
 use Rattle.model.specs.Order.{pick}
 use Rattle.model.specs.BestOf.{bestOf}
@@ -29,7 +30,7 @@ use Rattle.procedures.specs.Procedures.{trackFree, waits, suits, earliest, come
 use Rattle.comparing.specs.Comparing.{Comparison, against}
 use Rattle.baselines.specs.Baselines.{compared}
 use Rattle.known_days.specs.Lines.{Line, values, best, later, refused, unkept, accepted, plans, compares, comparesIn, Holds, sameOutcome, sameInt, sameComparison, sameAnswer, isRow, isNone, isInterval, noInterval, passes, line-holds}
-use Rattle.known_days.specs.Days.{move, dayOf, openDay, weightless, fromTwelve, paperDay, numbered, inGroups}
+use Rattle.known_days.specs.Days.{move, dayOf, openDay, weightless, fromTwelve, paired, fullest, paperDay, numbered, inGroups}
 
 -- ---- the table
 
@@ -37,22 +38,22 @@ abbrev pub saving : Outcome → ℕ → Answer Comparison
 saving o saved = gives record { outcome = o; saving = pos saved }
 
 unfoldable pub table : List Line
-unfolding dayOf openDay weightless fromTwelve paperDay numbered inGroups
+unfolding dayOf openDay weightless fromTwelve paired fullest paperDay numbered inGroups
 table =
     -- P1 to P3, the source's example
-    best (paperDay 1 1 1) (2 ∷ 1 ∷ 2 ∷ 1 ∷ []) (figures 1 7 8)
-    ∷ values (paperDay 1 1 1) (2 ∷ 1 ∷ 2 ∷ 1 ∷ []) (gives (figures 1 7 8))
-    ∷ values (paperDay 1 1 1) (2 ∷ 1 ∷ 1 ∷ 2 ∷ []) (gives (figures 1 15 16))
-    ∷ values (paperDay 1 1 1) (1 ∷ 1 ∷ 2 ∷ 2 ∷ []) (gives (figures 1 10 11))
+    best (paperDay 1 1 1) (2 ∷ 1 ∷ 2 ∷ 1 ∷ []) (figures 1 7 9 8)
+    ∷ values (paperDay 1 1 1) (2 ∷ 1 ∷ 2 ∷ 1 ∷ []) (gives (figures 1 7 9 8))
+    ∷ values (paperDay 1 1 1) (2 ∷ 1 ∷ 1 ∷ 2 ∷ []) (gives (figures 1 15 1 16))
+    ∷ values (paperDay 1 1 1) (1 ∷ 1 ∷ 2 ∷ 2 ∷ []) (gives (figures 1 10 6 11))
     -- P4 weights 0 and 1, P5 weights 0 and 0 as order 5 has it
-    ∷ best (paperDay 0 1 1) (2 ∷ 1 ∷ 2 ∷ 1 ∷ []) (figures 1 7 7)
+    ∷ best (paperDay 0 1 1) (2 ∷ 1 ∷ 2 ∷ 1 ∷ []) (figures 1 7 9 7)
     ∷ later (paperDay 0 1 1) (2 ∷ 1 ∷ 2 ∷ 1 ∷ []) (1 ∷ 2 ∷ 1 ∷ 2 ∷ []) 7
-    ∷ best (paperDay 0 0 1) (2 ∷ 1 ∷ 2 ∷ 1 ∷ []) (figures 1 7 0)
+    ∷ best (paperDay 0 0 1) (2 ∷ 1 ∷ 2 ∷ 1 ∷ []) (figures 1 7 9 0)
     -- P6 train 4 bound to slot 2, P7 the same with weights 4 and 1
-    ∷ best (paperDay 1 1 2) (1 ∷ 2 ∷ 1 ∷ 2 ∷ []) (figures 2 7 9)
-    ∷ best (paperDay 4 1 2) (1 ∷ 1 ∷ 2 ∷ 2 ∷ []) (figures 1 10 14)
+    ∷ best (paperDay 1 1 2) (1 ∷ 2 ∷ 1 ∷ 2 ∷ []) (figures 2 7 9 9)
+    ∷ best (paperDay 4 1 2) (1 ∷ 1 ∷ 2 ∷ 2 ∷ []) (figures 1 10 6 14)
     -- P8 one train
-    ∷ best (openDay 1 1 1 []) (1 ∷ []) (figures 0 0 0)
+    ∷ best (openDay 1 1 1 []) (1 ∷ []) (figures 0 0 0 0)
     -- P9 and P10, overbooked
     ∷ refused (dayOf 3 2 2 1 1 (1 ∷ 1 ∷ 1 ∷ []) (1 ∷ 1 ∷ 1 ∷ []) []) 1 1 3
     ∷ refused (openDay 3 1 2 []) 1 2 3
@@ -62,17 +63,17 @@ table =
     ∷ refused (dayOf 6 1 4 1 1 (2 ∷ 2 ∷ 2 ∷ 3 ∷ 2 ∷ 2 ∷ []) (3 ∷ 3 ∷ 3 ∷ 4 ∷ 2 ∷ 2 ∷ []) []) 1 3 5
     ∷ refused (dayOf 5 1 4 1 1 (2 ∷ 2 ∷ 2 ∷ 4 ∷ 4 ∷ []) (2 ∷ 3 ∷ 3 ∷ 4 ∷ 4 ∷ []) []) 1 4 5
     -- P11 to P13
-    ∷ best (openDay 2 1 2 (move 1 2 1 ∷ move 2 1 1 ∷ [])) (2 ∷ 1 ∷ []) (figures 1 2 3)
-    ∷ best (openDay 2 2 2 (move 1 2 1 ∷ move 2 1 1 ∷ [])) (1 ∷ 1 ∷ []) (figures 0 0 0)
-    ∷ best (openDay 3 1 3 (move 1 2 1 ∷ [])) (3 ∷ 2 ∷ 1 ∷ []) (figures 0 1 1)
+    ∷ best (openDay 2 1 2 (move 1 2 1 ∷ move 2 1 1 ∷ [])) (2 ∷ 1 ∷ []) (figures 1 2 0 3)
+    ∷ best (openDay 2 2 2 (move 1 2 1 ∷ move 2 1 1 ∷ [])) (1 ∷ 1 ∷ []) (figures 0 0 2 0)
+    ∷ best (openDay 3 1 3 (move 1 2 1 ∷ [])) (3 ∷ 2 ∷ 1 ∷ []) (figures 0 1 0 1)
     -- order 5, each key before the next. Fewer revisits, though the sum of slot numbers is larger and the set number of slot 1 smaller; a
     -- smaller sum, though that set number is smaller (3 and 4), also with groups, and though each slot is served in both rows; set
     -- numbers, where the three are equal. Cost before revisits: P6, whose row has two where one of cost 11 has one
-    ∷ best (dayOf 2 1 3 0 0 (1 ∷ 2 ∷ []) (3 ∷ 2 ∷ []) (move 1 2 1 ∷ [])) (3 ∷ 2 ∷ []) (figures 0 1 0)
+    ∷ best (dayOf 2 1 3 0 0 (1 ∷ 2 ∷ []) (3 ∷ 2 ∷ []) (move 1 2 1 ∷ [])) (3 ∷ 2 ∷ []) (figures 0 1 0 0)
     ∷ later (dayOf 2 1 3 0 0 (1 ∷ 2 ∷ []) (3 ∷ 2 ∷ []) (move 1 2 1 ∷ [])) (3 ∷ 2 ∷ []) (1 ∷ 2 ∷ []) 0
-    ∷ best (openDay 3 2 2 (move 1 2 1 ∷ [])) (1 ∷ 1 ∷ 2 ∷ []) (figures 0 0 0)
+    ∷ best (openDay 3 2 2 (move 1 2 1 ∷ [])) (1 ∷ 1 ∷ 2 ∷ []) (figures 0 0 1 0)
     ∷ later (openDay 3 2 2 (move 1 2 1 ∷ [])) (1 ∷ 1 ∷ 2 ∷ []) (2 ∷ 2 ∷ 1 ∷ []) 0
-    ∷ best (inGroups (1 ∷ 1 ∷ 0 ∷ []) (openDay 3 2 2 [])) (1 ∷ 1 ∷ 2 ∷ []) (figures 0 0 0)
+    ∷ best (inGroups (1 ∷ 1 ∷ 0 ∷ []) (openDay 3 2 2 [])) (1 ∷ 1 ∷ 2 ∷ []) (figures 0 0 0 0)
     ∷ later (openDay 3 1 3 (move 1 2 1 ∷ [])) (3 ∷ 2 ∷ 1 ∷ []) (3 ∷ 1 ∷ 2 ∷ []) 1
     -- one revisit less before 83 less in the sum; 7 revisits before 8, 10 before 11; sums of 88 before 89, 63 before 64
     ∷ later (weightless 12 12 8 (move 1 2 1 ∷ [])) (replicate 12 8) (1 ∷ 2 ∷ replicate 10 1) 0
@@ -85,12 +86,20 @@ table =
     ∷ later (openDay 12 12 8 []) (replicate 10 1 ++ (8 ∷ 7 ∷ [])) (replicate 10 1 ++ (7 ∷ 8 ∷ [])) 0
     -- where a revisit is as dear as a box, and with groups, fewer revisits; a revisit for several suppliers is one, and its return adds
     -- nothing to the sum; split moves are no key; a sum that decides where the plan has a cost and a revisit
-    ∷ best (dayOf 4 2 3 1 1 (2 ∷ 1 ∷ 1 ∷ 2 ∷ []) (2 ∷ 3 ∷ 1 ∷ 2 ∷ []) (move 2 1 1 ∷ move 2 3 1 ∷ [])) (2 ∷ 3 ∷ 1 ∷ 2 ∷ []) (figures 0 2 2)
-    ∷ best (inGroups (1 ∷ 1 ∷ 0 ∷ 0 ∷ []) (paperDay 0 0 1)) (1 ∷ 1 ∷ 2 ∷ 2 ∷ []) (figures 1 10 0)
-    ∷ best (dayOf 3 1 3 0 0 (replicate 3 1) (3 ∷ 3 ∷ 2 ∷ []) (move 3 1 1 ∷ move 3 2 1 ∷ [])) (3 ∷ 2 ∷ 1 ∷ []) (figures 1 2 0)
-    ∷ best (dayOf 3 1 3 1 1 (2 ∷ 1 ∷ 2 ∷ []) (3 ∷ 1 ∷ 3 ∷ []) (move 2 1 2 ∷ [])) (3 ∷ 1 ∷ 2 ∷ []) (figures 1 2 3)
-    ∷ best (dayOf 3 2 2 1 0 (replicate 3 1) (2 ∷ 2 ∷ 1 ∷ []) (move 2 1 5 ∷ [])) (1 ∷ 2 ∷ 1 ∷ []) (figures 0 5 0)
-    ∷ best (dayOf 4 3 2 2 1 (replicate 4 1) (2 ∷ 2 ∷ 2 ∷ 1 ∷ []) (move 1 2 1 ∷ move 2 1 2 ∷ move 4 1 2 ∷ move 4 3 2 ∷ [])) (1 ∷ 1 ∷ 2 ∷ 1 ∷ []) (figures 1 2 4)
+    ∷ best (dayOf 4 2 3 1 1 (2 ∷ 1 ∷ 1 ∷ 2 ∷ []) (2 ∷ 3 ∷ 1 ∷ 2 ∷ []) (move 2 1 1 ∷ move 2 3 1 ∷ [])) (2 ∷ 3 ∷ 1 ∷ 2 ∷ []) (figures 0 2 0 2)
+    ∷ best (inGroups (1 ∷ 1 ∷ 0 ∷ 0 ∷ []) (paperDay 0 0 1)) (1 ∷ 1 ∷ 2 ∷ 2 ∷ []) (figures 1 10 6 0)
+    ∷ best (dayOf 3 1 3 0 0 (replicate 3 1) (3 ∷ 3 ∷ 2 ∷ []) (move 3 1 1 ∷ move 3 2 1 ∷ [])) (3 ∷ 2 ∷ 1 ∷ []) (figures 1 2 0 0)
+    ∷ best (dayOf 3 1 3 1 1 (2 ∷ 1 ∷ 2 ∷ []) (3 ∷ 1 ∷ 3 ∷ []) (move 2 1 2 ∷ [])) (3 ∷ 1 ∷ 2 ∷ []) (figures 1 2 0 3)
+    ∷ best (dayOf 3 2 2 1 0 (replicate 3 1) (2 ∷ 2 ∷ 1 ∷ []) (move 2 1 5 ∷ [])) (1 ∷ 2 ∷ 1 ∷ []) (figures 0 5 0 0)
+    ∷ best (dayOf 4 3 2 2 1 (replicate 4 1) (2 ∷ 2 ∷ 2 ∷ 1 ∷ []) (move 1 2 1 ∷ move 2 1 2 ∷ move 4 1 2 ∷ move 4 3 2 ∷ [])) (1 ∷ 1 ∷ 2 ∷ 1 ∷ []) (figures 1 2 5 4)
+    -- order 6, direct moves: between all trains of a slot, not those next to each other in the file alone, in both directions, by their boxes;
+    -- the boxes between the trains 1 2, 1 3, .. are 1, 2, 4, .., so each pair has its place in the sum. In one slot, in two, each alone; and the
+    -- greatest number
+    ∷ values (openDay 4 4 4 paired) (replicate 4 3) (gives (figures 0 0 255 0))
+    ∷ values (openDay 4 4 4 paired) (1 ∷ 2 ∷ 1 ∷ 2 ∷ []) (gives (figures 2 77 178 79))
+    ∷ values (openDay 4 4 4 paired) (4 ∷ 4 ∷ 4 ∷ 1 ∷ []) (gives (figures 1 212 43 213))
+    ∷ values (openDay 4 4 4 paired) (1 ∷ 2 ∷ 3 ∷ 4 ∷ []) (gives (figures 3 255 0 258))
+    ∷ values (openDay 12 12 8 fullest) (replicate 12 8) (gives (figures 0 0 33660 0))
     -- the limits of the head on both sides: trains and tracks 1 and 12, 0 and 13; slots 1 and 8, 0 and 9; weights 0 and 65535, 65536
     ∷ accepted (openDay 12 12 8 []) true
     ∷ accepted (openDay 1 1 1 []) true
@@ -105,7 +114,7 @@ table =
     ∷ accepted (paperDay 65536 1 1) false
     ∷ accepted (paperDay 1 65536 1) false
     -- G trains in a slot and G + 1
-    ∷ values (openDay 4 2 2 []) (1 ∷ 1 ∷ 2 ∷ 2 ∷ []) (gives (figures 0 0 0))
+    ∷ values (openDay 4 2 2 []) (1 ∷ 1 ∷ 2 ∷ 2 ∷ []) (gives (figures 0 0 0 0))
     ∷ values (openDay 4 2 2 []) (1 ∷ 1 ∷ 1 ∷ 2 ∷ []) (refuses 13 (1 ∷ []))
     -- windows: first and last 1 and T, 0 and T + 1, reversed
     ∷ accepted (dayOf 2 1 2 1 1 (1 ∷ 2 ∷ []) (1 ∷ 2 ∷ []) []) true
@@ -142,19 +151,19 @@ table =
     ∷ values (paperDay 1 1 1) (1 ∷ 2 ∷ 2 ∷ 2 ∷ []) (refuses 13 (2 ∷ []))
     ∷ values (openDay 4 1 2 []) (1 ∷ 1 ∷ 2 ∷ 2 ∷ []) (refuses 13 (1 ∷ []))
     -- planning lent 2^n words, T × 2^n words and n bytes, each one short, and more; 8 before 10, 10 before 9
-    ∷ plans (paperDay 1 1 1) 16 32 4 (gives (figures 1 7 8))
+    ∷ plans (paperDay 1 1 1) 16 32 4 (gives (figures 1 7 9 8))
     ∷ plans (paperDay 1 1 1) 15 32 4 (refuses 10 (0 ∷ []))
     ∷ plans (paperDay 1 1 1) 16 31 4 (refuses 10 (0 ∷ []))
     ∷ plans (paperDay 1 1 1) 16 32 3 (refuses 10 (0 ∷ []))
-    ∷ plans (paperDay 1 1 1) 4096 32768 12 (gives (figures 1 7 8))
+    ∷ plans (paperDay 1 1 1) 4096 32768 12 (gives (figures 1 7 9 8))
     ∷ plans (paperDay 65536 1 1) 0 0 0 (refuses 8 (0 ∷ []))
     ∷ plans (openDay 3 1 2 []) 8 16 3 (refuses 9 (1 ∷ 2 ∷ 3 ∷ []))
     ∷ plans (openDay 3 1 2 []) 7 16 3 (refuses 10 (0 ∷ []))
     -- wagon sets: of trains that follow each other in the file and of others, with gaps in the numbers; a set of one binds nothing
-    ∷ best (inGroups (1 ∷ 1 ∷ 0 ∷ 0 ∷ []) (paperDay 1 1 1)) (1 ∷ 1 ∷ 2 ∷ 2 ∷ []) (figures 1 10 11)
-    ∷ best (inGroups (1 ∷ 0 ∷ 0 ∷ 1 ∷ []) (paperDay 1 1 1)) (1 ∷ 2 ∷ 2 ∷ 1 ∷ []) (figures 1 15 16)
-    ∷ best (inGroups (3 ∷ 12 ∷ 12 ∷ 3 ∷ []) (paperDay 1 1 1)) (1 ∷ 2 ∷ 2 ∷ 1 ∷ []) (figures 1 15 16)
-    ∷ best (inGroups (5 ∷ 0 ∷ 0 ∷ 0 ∷ []) (paperDay 1 1 1)) (2 ∷ 1 ∷ 2 ∷ 1 ∷ []) (figures 1 7 8)
+    ∷ best (inGroups (1 ∷ 1 ∷ 0 ∷ 0 ∷ []) (paperDay 1 1 1)) (1 ∷ 1 ∷ 2 ∷ 2 ∷ []) (figures 1 10 6 11)
+    ∷ best (inGroups (1 ∷ 0 ∷ 0 ∷ 1 ∷ []) (paperDay 1 1 1)) (1 ∷ 2 ∷ 2 ∷ 1 ∷ []) (figures 1 15 1 16)
+    ∷ best (inGroups (3 ∷ 12 ∷ 12 ∷ 3 ∷ []) (paperDay 1 1 1)) (1 ∷ 2 ∷ 2 ∷ 1 ∷ []) (figures 1 15 1 16)
+    ∷ best (inGroups (5 ∷ 0 ∷ 0 ∷ 0 ∷ []) (paperDay 1 1 1)) (2 ∷ 1 ∷ 2 ∷ 1 ∷ []) (figures 1 7 9 8)
     -- a set of more trains than tracks; one whose windows share no slot; one that shares a slot with one track: 16, after 10
     ∷ unkept (inGroups (1 ∷ 1 ∷ 1 ∷ []) (openDay 3 2 2 []))
     ∷ unkept (inGroups (1 ∷ 1 ∷ []) (dayOf 2 2 2 1 1 (1 ∷ 2 ∷ []) (1 ∷ 2 ∷ []) []))
@@ -170,7 +179,7 @@ table =
     ∷ values (inGroups (7 ∷ 3 ∷ 7 ∷ 3 ∷ []) (paperDay 1 1 1)) (1 ∷ 1 ∷ 2 ∷ 3 ∷ []) (refuses 12 (4 ∷ []))
     ∷ values (inGroups (7 ∷ 3 ∷ 7 ∷ 3 ∷ []) (paperDay 1 1 1)) (1 ∷ 2 ∷ 2 ∷ 2 ∷ []) (refuses 13 (2 ∷ []))
     ∷ values (inGroups (1 ∷ 1 ∷ 12 ∷ 12 ∷ []) (openDay 4 2 3 [])) (1 ∷ 1 ∷ 2 ∷ 3 ∷ []) (refuses 17 (12 ∷ []))
-    ∷ values (inGroups (0 ∷ 0 ∷ 1 ∷ 1 ∷ []) (openDay 4 2 3 [])) (1 ∷ 2 ∷ 3 ∷ 3 ∷ []) (gives (figures 0 0 0))
+    ∷ values (inGroups (0 ∷ 0 ∷ 1 ∷ 1 ∷ []) (openDay 4 2 3 [])) (1 ∷ 2 ∷ 3 ∷ 3 ∷ []) (gives (figures 0 0 0 0))
     -- whichever of the groups has the first or the last member in the file; a set of all trains; 8 where a group alone is unsound
     ∷ values (inGroups (7 ∷ 3 ∷ 3 ∷ 7 ∷ []) (paperDay 1 1 1)) (1 ∷ 1 ∷ 2 ∷ 2 ∷ []) (refuses 17 (3 ∷ []))
     ∷ values (inGroups (3 ∷ 7 ∷ 7 ∷ 3 ∷ []) (paperDay 1 1 1)) (1 ∷ 1 ∷ 2 ∷ 2 ∷ []) (refuses 17 (3 ∷ []))
@@ -190,42 +199,42 @@ table =
     ∷ compares firstCome (inGroups (1 ∷ 0 ∷ 1 ∷ []) (dayOf 3 2 2 1 1 (1 ∷ 1 ∷ 1 ∷ []) (2 ∷ 2 ∷ 1 ∷ []) [])) (1 ∷ 1 ∷ 0 ∷ []) (refuses 14 (3 ∷ []))
     ∷ compares firstCome (inGroups (0 ∷ 1 ∷ 1 ∷ []) (openDay 3 2 2 [])) (1 ∷ 1 ∷ 2 ∷ []) (refuses 14 (0 ∷ []))
     ∷ compares myopic (inGroups (0 ∷ 1 ∷ 1 ∷ []) (openDay 3 2 2 [])) (1 ∷ 1 ∷ 2 ∷ []) (refuses 14 (0 ∷ []))
-    ∷ compares myopic (inGroups (1 ∷ 1 ∷ 0 ∷ []) (openDay 3 2 2 [])) (1 ∷ 1 ∷ 2 ∷ []) (saving (figures 0 0 0) 0)
+    ∷ compares myopic (inGroups (1 ∷ 1 ∷ 0 ∷ []) (openDay 3 2 2 [])) (1 ∷ 1 ∷ 2 ∷ []) (saving (figures 0 0 0 0) 0)
     -- comparing lent the same two areas: 8 before 10, 10 before 9, 9 before 14 (the next lines but three)
-    ∷ comparesIn 16 32 firstCome (paperDay 1 1 1) (saving (figures 1 10 11) 3)
+    ∷ comparesIn 16 32 firstCome (paperDay 1 1 1) (saving (figures 1 10 6 11) 3)
     ∷ comparesIn 15 32 firstCome (paperDay 1 1 1) (refuses 10 (0 ∷ []))
     ∷ comparesIn 16 31 myopic (paperDay 1 1 1) (refuses 10 (0 ∷ []))
     ∷ comparesIn 0 0 myopic (paperDay 65536 1 1) (refuses 8 (0 ∷ []))
     ∷ comparesIn 7 16 firstCome (openDay 3 1 2 []) (refuses 10 (0 ∷ []))
     -- P1 and P9 compared: both procedures give P3's row, and 9 comes before 14
-    ∷ compares firstCome (paperDay 1 1 1) (1 ∷ 1 ∷ 2 ∷ 2 ∷ []) (saving (figures 1 10 11) 3)
-    ∷ compares myopic (paperDay 1 1 1) (1 ∷ 1 ∷ 2 ∷ 2 ∷ []) (saving (figures 1 10 11) 3)
+    ∷ compares firstCome (paperDay 1 1 1) (1 ∷ 1 ∷ 2 ∷ 2 ∷ []) (saving (figures 1 10 6 11) 3)
+    ∷ compares myopic (paperDay 1 1 1) (1 ∷ 1 ∷ 2 ∷ 2 ∷ []) (saving (figures 1 10 6 11) 3)
     ∷ compares firstCome (dayOf 3 2 2 1 1 (1 ∷ 1 ∷ 1 ∷ []) (1 ∷ 1 ∷ 1 ∷ []) []) (1 ∷ 1 ∷ 0 ∷ []) (refuses 9 (1 ∷ 1 ∷ 3 ∷ []))
     ∷ compares myopic (dayOf 3 2 2 1 1 (1 ∷ 1 ∷ 1 ∷ []) (1 ∷ 1 ∷ 1 ∷ []) []) (1 ∷ 1 ∷ 0 ∷ []) (refuses 9 (1 ∷ 1 ∷ 3 ∷ []))
     -- one procedure leaves a train over and the other does not
     ∷ compares firstCome (dayOf 2 1 2 1 1 (1 ∷ 1 ∷ []) (2 ∷ 1 ∷ []) (move 1 2 1 ∷ [])) (1 ∷ 0 ∷ []) (refuses 14 (2 ∷ []))
-    ∷ compares myopic (dayOf 2 1 2 1 1 (1 ∷ 1 ∷ []) (2 ∷ 1 ∷ []) (move 1 2 1 ∷ [])) (2 ∷ 1 ∷ []) (saving (figures 0 1 1) 0)
-    ∷ compares firstCome (dayOf 2 1 2 1 1 (1 ∷ 1 ∷ []) (1 ∷ 2 ∷ []) (move 1 2 1 ∷ [])) (1 ∷ 2 ∷ []) (saving (figures 1 1 2) 0)
+    ∷ compares myopic (dayOf 2 1 2 1 1 (1 ∷ 1 ∷ []) (2 ∷ 1 ∷ []) (move 1 2 1 ∷ [])) (2 ∷ 1 ∷ []) (saving (figures 0 1 0 1) 0)
+    ∷ compares firstCome (dayOf 2 1 2 1 1 (1 ∷ 1 ∷ []) (1 ∷ 2 ∷ []) (move 1 2 1 ∷ [])) (1 ∷ 2 ∷ []) (saving (figures 1 1 0 2) 0)
     ∷ compares myopic (dayOf 2 1 2 1 1 (1 ∷ 1 ∷ []) (1 ∷ 2 ∷ []) (move 1 2 1 ∷ [])) (0 ∷ 1 ∷ []) (refuses 14 (1 ∷ []))
     -- both cost more than the plan, each its own
-    ∷ compares firstCome (openDay 3 2 2 (move 2 3 1 ∷ [])) (1 ∷ 1 ∷ 2 ∷ []) (saving (figures 1 1 2) 2)
-    ∷ compares myopic (openDay 3 2 2 (move 2 3 1 ∷ [])) (1 ∷ 2 ∷ 1 ∷ []) (saving (figures 0 1 1) 1)
+    ∷ compares firstCome (openDay 3 2 2 (move 2 3 1 ∷ [])) (1 ∷ 1 ∷ 2 ∷ []) (saving (figures 1 1 0 2) 2)
+    ∷ compares myopic (openDay 3 2 2 (move 2 3 1 ∷ [])) (1 ∷ 2 ∷ 1 ∷ []) (saving (figures 0 1 0 1) 1)
     -- (11) figures boxes from earlier slots: without them, as in the source's Table 2, the row would be 1 2 3
-    ∷ compares myopic (openDay 3 1 3 (move 2 1 1 ∷ [])) (1 ∷ 3 ∷ 2 ∷ []) (saving (figures 0 1 1) 0)
+    ∷ compares myopic (openDay 3 1 3 (move 2 1 1 ∷ [])) (1 ∷ 3 ∷ 2 ∷ []) (saving (figures 0 1 0 1) 0)
     -- train 4 waits still when its window has passed, and train 2 pays for it in slot 2
     ∷ compares myopic (dayOf 4 1 4 1 1 (1 ∷ 2 ∷ 1 ∷ 1 ∷ []) (3 ∷ 4 ∷ 2 ∷ 1 ∷ []) (move 2 4 1 ∷ move 3 1 1 ∷ [])) (1 ∷ 3 ∷ 2 ∷ 0 ∷ []) (refuses 14 (4 ∷ []))
     -- (11) with weights of its own: exchanged, each taken for 1 or left out, a revisit for each waiting supplier, suppliers counted for
     -- boxes, boxes sent for boxes received, the boxes of earlier slots or of waiting trains left out, each gives another row
-    ∷ compares myopic (dayOf 4 1 4 5 2 (replicate 4 1) (replicate 4 4) (move 1 2 1 ∷ move 2 3 1 ∷ move 2 4 1 ∷ move 3 4 4 ∷ move 4 1 5 ∷ [])) (1 ∷ 2 ∷ 4 ∷ 3 ∷ []) (saving (figures 2 12 34) 5)
+    ∷ compares myopic (dayOf 4 1 4 5 2 (replicate 4 1) (replicate 4 4) (move 1 2 1 ∷ move 2 3 1 ∷ move 2 4 1 ∷ move 3 4 4 ∷ move 4 1 5 ∷ [])) (1 ∷ 2 ∷ 4 ∷ 3 ∷ []) (saving (figures 2 12 0 34) 5)
     -- (11) leaves out the boxes and the suppliers of the slot itself, and of equal trains the lowest position is taken
-    ∷ compares myopic (dayOf 3 2 3 1 3 (replicate 3 1) (replicate 3 3) (move 2 1 4 ∷ [])) (1 ∷ 1 ∷ 2 ∷ []) (saving (figures 0 0 0) 0)
+    ∷ compares myopic (dayOf 3 2 3 1 3 (replicate 3 1) (replicate 3 3) (move 2 1 4 ∷ [])) (1 ∷ 1 ∷ 2 ∷ []) (saving (figures 0 0 4 0) 0)
     ∷ []
 
 -- ---- every line holds
 
 -- the one computation
 computed : T (allPass passes table)
-unfolding allPass passes sameOutcome sameInt sameComparison sameAnswer sameList isRow isNone isInterval noInterval table sum count each Fold.some lowest mask lateSupplier revisiting revisits splitBoxes splitsTo splits weighed cost inSlots inWindow load roomy fitting grouped apart kept parted allowed slotMask lower slotTotal bySets precedes bound exceeds overbooked allRows byKey pick bestOf overbookedFrom overbookedFirst overbookedLast firstOverbooked within headRanges trainRanges shaped numberBefore trainSound unused positionSound groupSound pairSound receiverSound sound strays overfull valued planned inTime trackFree waits suits earliest comeTo waitingSupplier outsideBoxes priority select fillTo servedTo against compared
+unfolding allPass passes sameOutcome sameInt sameComparison sameAnswer sameList isRow isNone isInterval noInterval table sum count each Fold.some lowest mask lateSupplier revisiting revisits splitBoxes splitsTo splits directBoxes directTo direct weighed cost inSlots inWindow load roomy fitting grouped apart kept parted allowed slotMask lower slotTotal bySets precedes bound exceeds overbooked allRows byKey pick bestOf overbookedFrom overbookedFirst overbookedLast firstOverbooked within headRanges trainRanges shaped numberBefore trainSound unused positionSound groupSound pairSound receiverSound sound strays overfull valued planned inTime trackFree waits suits earliest comeTo waitingSupplier outsideBoxes priority select fillTo servedTo against compared
 computed = tt
 
 pub every-line : (l : Line) → List·Memᴰ l table → Holds l

@@ -17,7 +17,7 @@ use Rattle.fold.specs.Fold.{sum, count, each, lowest}
 use Rattle.fold.specs.Table.{allPass, all-hold}
 use Rattle.fold.specs.Listed.{listed, joined}
 use Rattle.sets.specs.Mask.{mask}
-use Rattle.model.specs.Model.{Yard, lateSupplier, revisiting, revisits, splitBoxes, splitsTo, splits, weighed, cost, inSlots, inTime, inWindow, load, roomy, fitting, grouped, apart, kept, parted, allowed, slotMask, lower, byKey, slotTotal, bySets, precedes, bound, exceeds, overbooked}
+use Rattle.model.specs.Model.{Yard, lateSupplier, revisiting, revisits, splitBoxes, splitsTo, splits, directBoxes, directTo, direct, weighed, cost, inSlots, inTime, inWindow, load, roomy, fitting, grouped, apart, kept, parted, allowed, slotMask, lower, byKey, slotTotal, bySets, precedes, bound, exceeds, overbooked}
 use Rattle.model.specs.Rows.{allRows}
 use Rattle.model.specs.Order.{pick}
 use Rattle.model.specs.BestOf.{bestOf}
@@ -273,17 +273,17 @@ table =
     ∷ refused (withMoves "group train\n1 3\n1 1\n") 15 11
     ∷ refused (withMoves "group train\n2 1\n1 2\n") 15 11
     ∷ refused (withMoves "group train\n1 1\n1 2\n2 1\n") 15 12
-    -- what is printed: P1's plan file as 01 has it, the two lines of 9 for P9, the two lines of a text that is no day file
-    ∷ prints (withHead "4 2 2 1 1\n") (ascii "revisits splits cost\n1 7 8\ntrain slot\n1 2\n2 1\n3 2\n4 1\n")
+    -- what is printed: P1's plan file as 01 has it with order 6's direct moves, the two lines of 9 for P9, the two lines of a text that is no day file
+    ∷ prints (withHead "4 2 2 1 1\n") (ascii "revisits splits direct cost\n1 7 9 8\ntrain slot\n1 2\n2 1\n3 2\n4 1\n")
     ∷ prints (file "3 2 2 1 1\n" "1 1 1\n2 1 1\n3 1 1\n" "") (ascii "refusal first last trains\n9 1 1 3\n")
     ∷ prints (withTrains "1 01 2\n2 1 2\n3 1 2\n4 1 2\n") (ascii "refusal line\n2 4\n")
     -- wagon sets printed: P1 with trains 1 and 2 in one, a set of more trains than tracks, a row of a train not listed
-    ∷ prints (withMoves "1 4 1\n3 1 3\n3 4 5\n4 2 6\n4 3 1\ngroup train\n1 1\n1 2\n") (ascii "revisits splits cost\n1 10 11\ntrain slot\n1 1\n2 1\n3 2\n4 2\n")
+    ∷ prints (withMoves "1 4 1\n3 1 3\n3 4 5\n4 2 6\n4 3 1\ngroup train\n1 1\n1 2\n") (ascii "revisits splits direct cost\n1 10 6 11\ntrain slot\n1 1\n2 1\n3 2\n4 2\n")
     ∷ prints (withMoves "group train\n1 1\n1 2\n1 4\n") (ascii "refusal line\n16 0\n")
     ∷ prints (withMoves "group train\n1 5\n") (ascii "refusal line\n15 10\n")
     -- the answer in an output that is just long enough, and one byte short
-    ∷ answers (withHead "4 2 2 1 1\n") 54 (gives 54)
-    ∷ answers (withHead "4 2 2 1 1\n") 53 (refuses 10 (0 ∷ []))
+    ∷ answers (withHead "4 2 2 1 1\n") 63 (gives 63)
+    ∷ answers (withHead "4 2 2 1 1\n") 62 (refuses 10 (0 ∷ []))
     -- writing a day into an output that is just long enough, and one byte short; 8 before 10
     ∷ writesDay (paperDay 1 1 1) 129 (gives 129)
     ∷ writesDay (paperDay 1 1 1) 128 (refuses 10 (0 ∷ []))
@@ -291,8 +291,8 @@ table =
     ∷ writesDay (inGroups (1 ∷ 0 ∷ 1 ∷ []) (paperDay 1 1 1)) 149 (gives 149)
     ∷ writesDay (inGroups (1 ∷ 0 ∷ 1 ∷ []) (paperDay 1 1 1)) 148 (refuses 10 (0 ∷ []))
     -- the same of a plan; 8 before 11 before 12 before 13 before 17 before 10
-    ∷ writesPlan (paperDay 1 1 1) (2 ∷ 1 ∷ 2 ∷ 1 ∷ []) 54 (gives 54)
-    ∷ writesPlan (paperDay 1 1 1) (2 ∷ 1 ∷ 2 ∷ 1 ∷ []) 53 (refuses 10 (0 ∷ []))
+    ∷ writesPlan (paperDay 1 1 1) (2 ∷ 1 ∷ 2 ∷ 1 ∷ []) 63 (gives 63)
+    ∷ writesPlan (paperDay 1 1 1) (2 ∷ 1 ∷ 2 ∷ 1 ∷ []) 62 (refuses 10 (0 ∷ []))
     ∷ writesPlan (paperDay 65536 1 1) [] 0 (refuses 8 (0 ∷ []))
     ∷ writesPlan (paperDay 1 1 1) (0 ∷ 0 ∷ 0 ∷ []) 0 (refuses 11 (0 ∷ []))
     ∷ writesPlan (paperDay 1 1 2) (1 ∷ 1 ∷ 1 ∷ 1 ∷ []) 0 (refuses 12 (4 ∷ []))
@@ -323,7 +323,7 @@ passes (writesPlan d row bytes a) = sameAnswer eqb (planWrites dayLimits (yard d
 
 -- the one computation
 computed : T (allPass passes table)
-unfolding allPass passes sameYard isGiven sameAnswer sameList table readDay readFile readTrains readMoves headNames trainNames moveNames groupNames movesEnd readGroups position stored Reading.dayOf byte names field row more value within headRanges trainRanges moveRanges groupRanges lowest writes dayText fileOf fileText moveRows memberRows groupRows listed joined rowText rowsText digitsWithin planLines valueNames slotNames sound shaped positionSound groupSound trainSound numberBefore unused receiverSound pairSound each Fold.some sum count lateSupplier revisiting revisits splitBoxes splitsTo splits weighed inTime inWindow load roomy strays overfull answerText refusalText lineNames intervalNames cost inSlots fitting grouped apart kept parted allowed mask slotMask lower slotTotal bySets precedes bound exceeds overbooked allRows byKey pick bestOf overbookedFrom overbookedFirst overbookedLast firstOverbooked
+unfolding allPass passes sameYard isGiven sameAnswer sameList table readDay readFile readTrains readMoves headNames trainNames moveNames groupNames movesEnd readGroups position stored Reading.dayOf byte names field row more value within headRanges trainRanges moveRanges groupRanges lowest writes dayText fileOf fileText moveRows memberRows groupRows listed joined rowText rowsText digitsWithin planLines valueNames slotNames sound shaped positionSound groupSound trainSound numberBefore unused receiverSound pairSound each Fold.some sum count lateSupplier revisiting revisits splitBoxes splitsTo splits directBoxes directTo direct weighed inTime inWindow load roomy strays overfull answerText refusalText lineNames intervalNames cost inSlots fitting grouped apart kept parted allowed mask slotMask lower slotTotal bySets precedes bound exceeds overbooked allRows byKey pick bestOf overbookedFrom overbookedFirst overbookedLast firstOverbooked
 computed = tt
 
 -- the bound of `accepted-size` (the day file's Size.antt) is reached

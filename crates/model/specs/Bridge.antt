@@ -5,6 +5,7 @@
 -- With order 4's equation they belong to the allowed rows:
 --     feasible-allowed, allowed-feasible   the same two of allowed rows
 --     best-optimal     so the best plan's cost is the least objective of the program
+-- The direct moves of a fitting row are the program's boxes between trains of one slot (`row-direct`).
 -- Assumes nothing.
 use mathlib.Core.Path.{_≡_, refl, sym, ap, _∙_}
 use mathlib.Core.Bool.{Bool, true, false, not, cond}
@@ -15,13 +16,13 @@ use native.Mathlib.Nat.{add-le-add, le-refl, le-trans, mul-le-mul-left, mul-le-m
 use native.Mathlib.Omega.{arith}
 use lib.Dec.{T, ltb, eqb, lt→ltb, ltb→lt, not-T}
 use borrow.Author.Tests.{eq-eqb, eqb-true, lt-ltb, ne-eqb}
-use Rattle.fold.specs.Test.{of-true, of-false, both, both-of, not-of}
+use Rattle.fold.specs.Test.{eqb-sym, of-true, of-false, both, both-of, not-of}
 use Rattle.fold.specs.Fold.{bit, sum, count, some-at, some-of}
-use Rattle.fold.specs.Sums.{sum-ext, sum-le, sum-only, sum-one}
+use Rattle.fold.specs.Sums.{sum-ext, sum-le, sum-only, sum-one, sum-swap}
 use Rattle.fold.specs.Listed.{listed, length-listed, listed-at}
 use Rattle.fold.specs.Counting.{same-or, le-or-lt, bit-le}
-use Rattle.model.specs.Model.{Yard, received, slotOf, lateSupplier, revisiting, revisits, splitBoxes, splitsTo, splits, weighed, cost, load, fitting, kept, allowed, Best}
-use Rattle.model.specs.Program.{bigM, slotIn, distance, Supplies, Feasible, FeasibleInGroups, objective, chosen, leastY, leastZ}
+use Rattle.model.specs.Model.{Yard, received, slotOf, lateSupplier, revisiting, revisits, splitBoxes, splitsTo, splits, directBoxes, directTo, direct, weighed, cost, load, fitting, kept, allowed, Best}
+use Rattle.model.specs.Program.{bigM, slotIn, distance, Supplies, Feasible, FeasibleInGroups, objective, boxesTogether, chosen, leastY, leastZ}
 use Rattle.model.specs.Rows.{Fitting, fitting-is, is-fitting, allowed-fits, allowed-keeps, fits-allowed}
 use Rattle.model.specs.Groups.{grouped-of, grouped-by, kept-of, kept-by}
 
@@ -81,6 +82,10 @@ moved-bit true zero = refl
 moved-bit false zero = refl
 moved-bit true (suc a) = rw (lt-ltb 0 (suc a) (omega arith)) (zero-mul (suc a))
 moved-bit false (suc a) = rw (lt-ltb 0 (suc a) (omega arith)) (one-mul (suc a))
+
+bit-times : (e : Bool) (a : ℕ) → bit e * a ≡ cond e a 0
+bit-times true a = one-mul a
+bit-times false a = zero-mul a
 
 -- it grows with z_ij
 moved-le : (u w a : ℕ) → (0 < a → u ≤ w) → moved u a ≤ moved w a
@@ -178,6 +183,44 @@ module _ (y : Yard) (row : List ℕ) (ok : T (fitting y row)) where
       ap (λ k. y .revisit * revisits (y .trains) (received y) row + y .split * k)
       (sum-ext (y .trains) (λ i. sum (y .trains) (split i)) (splitsTo (y .trains) (received y) row)
       (λ i h. sum-ext (y .trains) (split i) (splitBoxes (received y) row i) (λ j l. moved-bit (eqb (slotOf row i) (slotOf row j)) (received y i j))))
+
+  -- the direct moves are the program's: the boxes between trains of one slot
+  pub row-direct : direct (y .trains) (received y) row ≡ boxesTogether y (chosen row)
+  unfolding direct directTo directBoxes boxesTogether
+  row-direct =
+      sum-ext n (directTo n a row) (λ i. sum slots λ t. sum n λ j. both i j t)
+      (λ i h.
+      sum-ext n (directBoxes a row i) (λ j. sum slots (both i j)) (λ j l. sym (pair i j h))
+      ∙ sum-swap n slots (both i))
+      ∙ sum-swap n slots (λ i t. sum n λ j. both i j t)
+    where
+      n : ℕ
+      n = y .trains
+
+      slots : ℕ
+      slots = y .slots
+
+      a : ℕ → ℕ → ℕ
+      a = received y
+
+      both : ℕ → ℕ → ℕ → ℕ
+      both i j t = chosen row i (suc t) * (chosen row j (suc t) * a i j)
+
+      -- at the slot of i the term of j counts, at the others none
+      term : (i j t : ℕ) (e : Bool) → eqb (slotOf row i) (suc t) ≡ e
+          → bit e * (bit (eqb (slotOf row j) (suc t)) * a i j) ≡ cond e (cond (eqb (slotOf row i) (slotOf row j)) (a i j) 0) 0
+      term i j t true q =
+          one-mul (bit (eqb (slotOf row j) (suc t)) * a i j)
+          ∙ ap (λ s. bit (eqb (slotOf row j) s) * a i j) (sym (eqb-true (slotOf row i) (suc t) q))
+          ∙ ap (λ b. bit b * a i j) (eqb-sym (slotOf row j) (slotOf row i))
+          ∙ bit-times (eqb (slotOf row i) (slotOf row j)) (a i j)
+      term i j t false q = zero-mul (bit (eqb (slotOf row j) (suc t)) * a i j)
+
+      pair : (i j : ℕ) → i < n → sum slots (both i j) ≡ directBoxes a row i j
+      pair i j h =
+          let (low, high) = is .slotted i h in
+          sum-ext slots (both i j) (λ t. cond (eqb (slotOf row i) (suc t)) (directBoxes a row i j) 0) (λ t l. term i j t (eqb (slotOf row i) (suc t)) refl)
+          ∙ sum-only slots (slotOf row i) (directBoxes a row i j) low high
 
 -- ---- the row of a point
 

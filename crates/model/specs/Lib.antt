@@ -1,4 +1,5 @@
 pub mod Model
+pub mod Moves
 pub mod Rows
 pub mod Groups
 pub mod Order

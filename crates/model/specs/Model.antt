@@ -52,7 +52,7 @@ slotOf row i = getD row i 0
 abbrev pub groupOf : List ℕ → ℕ → ℕ
 groupOf groups i = getD groups i 0
 
--- ---- the two counts, of n trains with boxes a: equation (1)'s sums at the least y and z that (4) and (5) allow
+-- ---- the counts, of n trains with boxes a. Revisits and split moves are equation (1)'s sums at the least y and z that (4) and (5) allow
 
 -- j is a supplier of i, one of L_i: A(i, j) is above 0
 abbrev pub supplies : (ℕ → ℕ → ℕ) → ℕ → ℕ → Bool
@@ -84,22 +84,44 @@ splitsTo n a row i = sum n (splitBoxes a row i)
 unfoldable pub splits : ℕ → (ℕ → ℕ → ℕ) → List ℕ → ℕ
 splits n a row = sum n (splitsTo n a row)
 
+-- order 6 of 02, direct moves: the boxes of i from j, where they are in the same slot
+unfoldable pub directBoxes : (ℕ → ℕ → ℕ) → List ℕ → ℕ → ℕ → ℕ
+directBoxes a row i j = cond (eqb (slotOf row i) (slotOf row j)) (a i j) 0
+
+-- the direct moves of the boxes that train i receives; of all boxes
+unfoldable pub directTo : ℕ → (ℕ → ℕ → ℕ) → List ℕ → ℕ → ℕ
+directTo n a row i = sum n (directBoxes a row i)
+
+unfoldable pub direct : ℕ → (ℕ → ℕ → ℕ) → List ℕ → ℕ
+direct n a row = sum n (directTo n a row)
+
+-- all boxes of the day
+unfoldable pub allBoxes : ℕ → (ℕ → ℕ → ℕ) → ℕ
+allBoxes n a = sum n λ i. sum n (a i)
+
 -- ---- the cost, equation (1)
 
 unfoldable pub weighed : ℕ → ℕ → ℕ → ℕ → ℕ
 weighed w1 w2 revisits splits = w1 * revisits + w2 * splits
 
--- 01: outcomes are revisits, splits, cost
+-- outcomes are revisits, splits, direct, cost: 01's, and order 6's direct moves, which have no part in the cost
 pub record Outcome : Type 0 where
   pub revisits : ℕ
   pub splits : ℕ
+  pub direct : ℕ
   pub cost : ℕ
 
-abbrev pub weighedCounts : ℕ → ℕ → ℕ → ℕ → Outcome
-weighedCounts w1 w2 revisits splits = record { revisits = revisits; splits = splits; cost = weighed w1 w2 revisits splits }
+-- of a row of n trains with boxes a, weighed by w1 and w2
+abbrev pub rowOutcome : ℕ → ℕ → ℕ → (ℕ → ℕ → ℕ) → List ℕ → Outcome
+rowOutcome w1 w2 n a row = record {
+  revisits = revisits n a row;
+  splits = splits n a row;
+  direct = direct n a row;
+  cost = weighed w1 w2 (revisits n a row) (splits n a row);
+}
 
 abbrev pub outcome : Yard → List ℕ → Outcome
-outcome y row = weighedCounts (y .revisit) (y .split) (revisits (y .trains) (received y) row) (splits (y .trains) (received y) row)
+outcome y = rowOutcome (y .revisit) (y .split) (y .trains) (received y)
 
 unfoldable pub cost : Yard → List ℕ → ℕ
 cost y row = outcome y row .cost

@@ -1,5 +1,5 @@
 -- The published program itself: the integer program TYSP of source 000, objective (1) under (2) to (6), with the windows of (12). Order 4
--- of document 02 adds an equation of its own.
+-- of document 02 adds an equation of its own, order 6 a count.
 -- Variables as in Table 1: x_it, y_i (here v, since y is the day) and z_ij. Bridge.antt joins it to Model.antt.
 -- Assumes nothing.
 use mathlib.Core.Path.{_≡_}
@@ -49,6 +49,10 @@ unfoldable pub objective : Yard → (ℕ → ℕ) → (ℕ → ℕ → ℕ) → 
 objective y v z =
     y .revisit * sum (y .trains) v
     + y .split * sum (y .trains) λ i. sum (y .trains) λ j. cond (supplies (received y) i j) (z i j * received y i j) 0
+
+-- order 6 of 02 in the source's variables: the boxes between trains of one slot, slot by slot, the sum of x_it x_jt A(i, j)
+unfoldable pub boxesTogether : Yard → (ℕ → ℕ → ℕ) → ℕ
+boxesTogether y x = sum (y .slots) λ t. sum (y .trains) λ i. sum (y .trains) λ j. x i (suc t) * (x j (suc t) * received y i j)
 
 -- ---- a row as a point of the program
 

@@ -12,16 +12,16 @@ use Rattle.lines.specs.Lines.{ascii, rowText, rowsText}
 use Rattle.output.specs.Output.{writes, leaves}
 use Rattle.output.specs.Laws.{Filled, filled}
 
--- ---- the plan file: the row's three numbers, then train numbers in file order, each with its slot
+-- ---- the plan file: the row's four numbers (order 6 of 02), then train numbers in file order, each with its slot
 
 unfoldable pub valueNames : List ℕ
-valueNames = ascii "revisits splits cost\n"
+valueNames = ascii "revisits splits direct cost\n"
 
 unfoldable pub slotNames : List ℕ
 slotNames = ascii "train slot\n"
 
 abbrev pub valueRow : Outcome → List ℕ
-valueRow o = o .revisits ∷ o .splits ∷ o .cost ∷ []
+valueRow o = o .revisits ∷ o .splits ∷ o .direct ∷ o .cost ∷ []
 
 abbrev pub slotRow : List ℕ → List ℕ → ℕ → List ℕ
 slotRow numbers row i = getD numbers i 0 ∷ slotOf row i ∷ []

@@ -15,7 +15,7 @@ use Rattle.model.specs.Model.{Yard, weighed, outcome, allowed}
 use Rattle.model.specs.Rows.{allowed-is}
 use Rattle.day.specs.Sound.{dayLimits, Range, range}
 use Rattle.day.specs.SoundLaws.{Sound, Within}
-use Rattle.day.specs.Most.{mostSplits, mostCost, sound-revisits, sound-splits, sound-cost}
+use Rattle.day.specs.Most.{mostBoxes, mostCost, sound-revisits, sound-splits, sound-direct, sound-cost}
 use Rattle.day.specs.declared.Limits.{Limits}
 use Rattle.lines.specs.Lines.{rowText, rowsText}
 use Rattle.lines.specs.RowSize.{mostInRow, digits-size, row-size}
@@ -24,7 +24,7 @@ use Rattle.planfile.specs.PlanText.{valueNames, slotNames, valueRow, slo
 -- ---- the greatest size
 
 unfoldable pub valueRanges : Limits → List Range
-valueRanges l = range 0 (l .trains) ∷ range 0 (mostSplits l) ∷ range 0 (mostCost l) ∷ []
+valueRanges l = range 0 (l .trains) ∷ range 0 (mostBoxes l) ∷ range 0 (mostBoxes l) ∷ range 0 (mostCost l) ∷ []
 
 unfoldable pub slotRanges : Limits → List Range
 slotRanges l = range 1 (l .number) ∷ range 1 (l .slots) ∷ []
@@ -58,7 +58,7 @@ module _ (l : Limits) (y : Yard) (row : List ℕ) (s : Sound l y) (a : T (allowe
   unfolding valueRanges
   values-size =
       row-size (valueRanges l) (valueRow (outcome y row)) refl
-      ((zero-le, sound-revisits l y row s), ((zero-le, sound-splits l y row s), ((zero-le, sound-cost l y row s), tt)))
+      ((zero-le, sound-revisits l y row s), ((zero-le, sound-splits l y row s), ((zero-le, sound-direct l y row s), ((zero-le, sound-cost l y row s), tt))))
 
   slots-size : length (rowsText (listed (y .trains) (slotRow (y .numbers) row))) ≤ l .trains * mostInRow (slotRanges l)
   unfolding slotRanges
@@ -76,10 +76,10 @@ module _ (l : Limits) (y : Yard) (row : List ℕ) (s : Sound l y) (a : T (allowe
 -- ---- with the day file's limits
 
 abbrev pub planBytes : ℕ
-planBytes = 148
+planBytes = 161
 
 pub plan-most : mostBytes dayLimits ≡ planBytes
-unfolding mostBytes mostInRow valueRanges slotRanges mostSplits mostCost weighed valueNames slotNames
+unfolding mostBytes mostInRow valueRanges slotRanges mostBoxes mostCost weighed valueNames slotNames
 plan-most =
     omega (
       arith,

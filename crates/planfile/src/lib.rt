@@ -19,23 +19,24 @@ use output::Wrote;
 use valuing::Valued;
 
 // The greatest size of a plan file (specs/Size.antt).
-pub const PLAN_BYTES: usize = 148;
+pub const PLAN_BYTES: usize = 161;
 
-pub const VALUE_NAMES: [u8; 21] = *b"revisits splits cost\n";
+pub const VALUE_NAMES: [u8; 28] = *b"revisits splits direct cost\n";
 
 pub const SLOT_NAMES: [u8; 11] = *b"train slot\n";
 
-// Puts the first section at the front: its names line and the row's three numbers. Gives the place after it.
+// Puts the first section at the front: its names line and the row's four numbers. Gives the place after it.
 fn put_values(out: &mut [u8], value: Value) -> usize
     requires { ⌜ length (valueLines (outcomeOf value)) ≤ length (now out) ⌝ }
     ensures { λ r. ⌜ Put (now (out .entry)) (now (out .exit)) 0 r (valueLines (outcomeOf value)) ⌝ }
 {
     let next = output::put_bytes(out, 0, &VALUE_NAMES);
-    output::put_three(
+    output::put_four(
         out,
         next,
         value.revisits.count(),
         value.splits.count(),
+        value.direct.count(),
         value.cost,
     )
 }
@@ -53,7 +54,7 @@ fn put_slots(out: &mut [u8], at: usize, numbers: &[u32], row: &[u8], n: usize) -
     next
 }
 
-// Puts the plan file of a row of n trains, whose three numbers are given, at the front. Gives its length.
+// Puts the plan file of a row of n trains, whose four numbers are given, at the front. Gives its length.
 pub fn put_plan(out: &mut [u8], numbers: &[u32], row: &[u8], n: usize, value: Value) -> usize
     requires { ⌜ (n ≤ length (now numbers)) × (n ≤ length (now row)) ⌝ }
     requires { ⌜ length (planLines n (now numbers) (outcomeOf value) (now row)) ≤ length (now out) ⌝ }

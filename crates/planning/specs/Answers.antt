@@ -16,6 +16,7 @@ use lib.Pow.{pow-mono}
 use borrow.Author.Tests.{le-leb}
 use Rattle.fold.specs.Test.{is-true, of-true, both, both-of}
 use Rattle.model.specs.Model.{Yard, Outcome, outcome, Best}
+use Rattle.model.specs.Moves.{AllMoved, all-moved}
 use Rattle.model.specs.BestOf.{bestOf, is-best}
 use Rattle.model.specs.Overbooked.{Interval, firstOverbooked}
 use Rattle.day.specs.Answer.{gives, refuses, onGiven, code}
@@ -93,6 +94,10 @@ module _ (l : Limits) (y : Yard) (costs choices bytes : ℕ) where
       go : T (sound l y) → (b : Option (List ℕ)) → bestOf y ≡ b → bestAnswer y b ≡ gives o → FromBest l y o
       go s none q g = absurd (none-gives y o g)
       go s (some row) q g = record { isSound = s; row = row; best = is-best y row q; numbers = sym (gives-same g) }
+
+  -- order 6: its direct and split moves are all boxes of the day
+  pub planned-boxes : (o : Outcome) → planned l y costs choices bytes ≡ gives o → AllMoved y o
+  planned-boxes o e = let best = from-best o e in subst (AllMoved y) (sym (best .numbers)) (all-moved y (best .row))
 
   -- ---- a refusal
 

@@ -2,7 +2,7 @@
 -- its contract says, on a sound day and lent the memory that 01 names: at least 2^n words, T × 2^n words and n bytes. Then
 --   plan-or-refused  a plan, 9 or 16 is returned, never 10;
 --   plan-exactly     a plan is returned exactly when an allowed row exists;
---   plan-best        it is the best row: allowed, no allowed row is cheaper, none of equal cost comes before it; its three numbers are the
+--   plan-best        it is the best row: allowed, no allowed row is cheaper, none of equal cost comes before it; its four numbers are the
 --                    model's; and the bytes beyond it are those lent;
 --   plan-foremost    the order among rows of equal cost is order 5's of document 02: none of them has fewer revisits, of those with as many
 --                    none a smaller sum of slot numbers, and of those with as small a one none the larger set number at the lowest

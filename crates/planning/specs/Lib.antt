@@ -2,3 +2,4 @@ pub mod Planning
 pub mod Laws
 pub mod Demand
 pub mod Answers
+pub mod Shares

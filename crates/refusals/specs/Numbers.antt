@@ -1,7 +1,7 @@
 -- A refusal as the code tells it: its number and the values that it carries, 0 where there are fewer than three.
 -- Assumes nothing.
-use mathlib.Core.Path.{_≡_, refl}
-use mathlib.Core.Bool.{cond}
+use mathlib.Core.Path.{_≡_, refl, ap, _∙_}
+use mathlib.Core.Bool.{Bool, true, false, cond}
 use mathlib.Core.List.{List, [], _∷_}
 use Prim.Native.Nat.{ℕ}
 use lib.Dec.{eqb}
@@ -39,3 +39,11 @@ carried-values (WithoutSlot position) = refl
 carried-values (GroupRow line) = refl
 carried-values NoAllowedRow = refl
 carried-values (GroupParted group) = refl
+
+-- so none carries a fourth
+pub no-fourth : (r : Refusal) → getD (carried r) 3 0 ≡ 0
+no-fourth r = ap (λ l. getD l 3 0) (carried-values r) ∙ go (eqb (number r) 9)
+  where
+    go : (b : Bool) → getD (cond b (getD (carried r) 0 0 ∷ getD (carried r) 1 0 ∷ getD (carried r) 2 0 ∷ []) (getD (carried r) 0 0 ∷ [])) 3 0 ≡ 0
+    go true = refl
+    go false = refl

@@ -1,6 +1,7 @@
 -- Equation (1) by slots: a row's revisits and split moves are sums over the slots of what the set of each slot causes, so the row's worth
 -- as staged choices is its cost (`worth-cost`). A revisit is counted in the train's own slot, where its supplier still remains; the boxes
--- that a train receives are split in its own slot too.
+-- that a train receives are split or direct in its own slot too, so the row's direct moves are a sum over the slots as well
+-- (`shares-direct`).
 -- Assumes nothing.
 use mathlib.Core.Path.{_≡_, refl, sym, ap, ap₂, _∙_}
 use mathlib.Core.Bool.{Bool, true, false, cond, _&&_, and-comm}
@@ -14,9 +15,9 @@ use Rattle.fold.specs.Test.{eqb-sym}
 use Rattle.fold.specs.Fold.{bit, sum, count, some}
 use Rattle.fold.specs.Sums.{sum-ext, some-ext, sum-add, sum-times, sum-swap, sum-only}
 use Rattle.sets.specs.Mask.{has, has-mask, mask-and, ones-mask}
-use Rattle.model.specs.Model.{Yard, received, supplies, slotOf, lateSupplier, revisiting, revisits, splitBoxes, splitsTo, splits, weighed, cost}
+use Rattle.model.specs.Model.{Yard, received, supplies, slotOf, lateSupplier, revisiting, revisits, splitBoxes, splitsTo, splits, directBoxes, directTo, direct, weighed, outcome, cost}
 use Rattle.optimum.specs.Rows.{stageSet, remaining, remaining-next, worth}
-use Rattle.staging.specs.Tables.{needing, fromOutside, lateTrains, slotCost}
+use Rattle.staging.specs.Tables.{needing, fromOutside, fromInside, lateTrains, slotCost, Share, slotShare}
 
 -- each train has one of the slots 1 to T
 abbrev pub Slotted : ℕ → ℕ → List ℕ → Type 0
@@ -66,33 +67,50 @@ module _ (n : ℕ) (a : ℕ → ℕ → ℕ) (row : List ℕ) where
       at i true e = ap bit (late-at t i (eqb-true (slotOf row i) t e))
       at i false e = refl
 
-  -- ---- split moves
+  -- ---- boxes, counted by whether both trains have the same slot
 
-  -- of a train in slot t: what comes from outside the slot's set comes from another slot
-  split-at : (t i : ℕ) → slotOf row i ≡ t → sum n (λ j. cond (has (stageSet n row t) j) 0 (a i j)) ≡ splitsTo n a row i
-  unfolding splitsTo splitBoxes
-  split-at t i e =
-      sum-ext n (λ j. cond (has (stageSet n row t) j) 0 (a i j)) (splitBoxes a row i)
+  -- of a train in slot t: a supplier is in the slot's set where it has the same slot
+  boxes-at : (f : Bool → ℕ → ℕ) (t i : ℕ) → slotOf row i ≡ t
+      → sum n (λ j. f (has (stageSet n row t) j) (a i j)) ≡ sum n λ j. f (eqb (slotOf row i) (slotOf row j)) (a i j)
+  boxes-at f t i e =
+      sum-ext n (λ j. f (has (stageSet n row t) j) (a i j)) (λ j. f (eqb (slotOf row i) (slotOf row j)) (a i j))
       (λ j l.
-      ap (λ b. cond b 0 (a i j))
+      ap (λ b. f b (a i j))
       (has-mask n (λ j. eqb (slotOf row j) t) j l ∙ ap (eqb (slotOf row j)) (sym e) ∙ eqb-sym (slotOf row j) (slotOf row i)))
 
-  split-in-slot : (t : ℕ) → fromOutside n a (stageSet n row t) ≡ inSlot n row (splitsTo n a row) t
-  unfolding fromOutside
-  split-in-slot t =
-      sum-ext n (λ i. cond (has s i) (sum n λ j. cond (has s j) 0 (a i j)) 0) (λ i. cond (eqb (slotOf row i) t) (splitsTo n a row i) 0)
+  boxes-in-slot : (f : Bool → ℕ → ℕ) (t : ℕ)
+      → sum n (λ i. cond (has (stageSet n row t) i) (sum n λ j. f (has (stageSet n row t) j) (a i j)) 0)
+      ≡ inSlot n row (λ i. sum n λ j. f (eqb (slotOf row i) (slotOf row j)) (a i j)) t
+  boxes-in-slot f t =
+      sum-ext n (λ i. cond (has s i) (sum n λ j. f (has s j) (a i j)) 0)
+      (λ i. cond (eqb (slotOf row i) t) (sum n λ j. f (eqb (slotOf row i) (slotOf row j)) (a i j)) 0)
       (λ i l.
-      ap (λ b. cond b (sum n λ j. cond (has s j) 0 (a i j)) 0) (has-mask n (λ i. eqb (slotOf row i) t) i l)
+      ap (λ b. cond b (sum n λ j. f (has s j) (a i j)) 0) (has-mask n (λ i. eqb (slotOf row i) t) i l)
       ∙ at i (eqb (slotOf row i) t) refl)
     where
       s : ℕ
       s = stageSet n row t
 
-      at : (i : ℕ) (b : Bool) → eqb (slotOf row i) t ≡ b → cond b (sum n λ j. cond (has s j) 0 (a i j)) 0 ≡ cond b (splitsTo n a row i) 0
-      at i true e = split-at t i (eqb-true (slotOf row i) t e)
+      at : (i : ℕ) (b : Bool) → eqb (slotOf row i) t ≡ b
+          → cond b (sum n λ j. f (has s j) (a i j)) 0 ≡ cond b (sum n λ j. f (eqb (slotOf row i) (slotOf row j)) (a i j)) 0
+      at i true e = boxes-at f t i (eqb-true (slotOf row i) t e)
       at i false e = refl
 
+  -- what comes from outside the slot's set comes from another slot
+  split-in-slot : (t : ℕ) → fromOutside n a (stageSet n row t) ≡ inSlot n row (splitsTo n a row) t
+  unfolding fromOutside splitsTo splitBoxes
+  split-in-slot t = boxes-in-slot (λ same boxes. cond same 0 boxes) t
+
+  -- and what comes from within it from the same slot
+  direct-in-slot : (t : ℕ) → fromInside n a (stageSet n row t) ≡ inSlot n row (directTo n a row) t
+  unfolding fromInside directTo directBoxes
+  direct-in-slot t = boxes-in-slot (λ same boxes. cond same boxes 0) t
+
 -- ---- the whole row
+
+-- what its slot j + 1 contributes
+abbrev pub shareIn : Yard → List ℕ → ℕ → Share
+shareIn y row j = slotShare y (suc j) (remaining (y .trains) row (suc j)) (stageSet (y .trains) row (suc j))
 
 module _ (y : Yard) (slots : ℕ) (row : List ℕ) (staged : Slotted (y .trains) slots row) where
   pub revisits-by-slot : revisits (y .trains) (received y) row
@@ -112,6 +130,14 @@ module _ (y : Yard) (slots : ℕ) (row : List ℕ) (staged : Slotted (y .trains)
       (λ j. fromOutside (y .trains) (received y) (stageSet (y .trains) row (suc j)))
       (λ j l. sym (split-in-slot (y .trains) (received y) row (suc j)))
 
+  pub direct-by-slot : direct (y .trains) (received y) row ≡ sum slots λ j. fromInside (y .trains) (received y) (stageSet (y .trains) row (suc j))
+  unfolding direct
+  direct-by-slot =
+      by-slot (y .trains) slots row staged (directTo (y .trains) (received y) row)
+      ∙ sum-ext slots (λ j. inSlot (y .trains) row (directTo (y .trains) (received y) row) (suc j))
+      (λ j. fromInside (y .trains) (received y) (stageSet (y .trains) row (suc j)))
+      (λ j l. sym (direct-in-slot (y .trains) (received y) row (suc j)))
+
   pub worth-cost : worth (slotCost y) (y .trains) slots row ≡ cost y row
   unfolding worth cost weighed
   worth-cost =
@@ -124,3 +150,11 @@ module _ (y : Yard) (slots : ℕ) (row : List ℕ) (staged : Slotted (y .trains)
 
       outside : ℕ → ℕ
       outside j = fromOutside (y .trains) (received y) (stageSet (y .trains) row (suc j))
+
+  -- the row's cost and its direct moves are the sums over its slots (order 6 of 02)
+  pub shares-cost : outcome y row .cost ≡ sum slots λ j. shareIn y row j .cost
+  unfolding worth cost
+  shares-cost = sym worth-cost
+
+  pub shares-direct : outcome y row .direct ≡ sum slots λ j. shareIn y row j .direct
+  shares-direct = direct-by-slot

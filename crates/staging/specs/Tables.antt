@@ -25,6 +25,10 @@ needing n a m = mask n λ i. some n λ j. has m j && supplies a i j
 unfoldable pub fromOutside : ℕ → (ℕ → ℕ → ℕ) → ℕ → ℕ
 fromOutside n a s = sum n λ i. cond (has s i) (sum n λ j. cond (has s j) 0 (a i j)) 0
 
+-- the boxes that the trains of s receive from each other
+unfoldable pub fromInside : ℕ → (ℕ → ℕ → ℕ) → ℕ → ℕ
+fromInside n a s = sum n λ i. cond (has s i) (sum n λ j. cond (has s j) (a i j) 0) 0
+
 -- the trains whose windows hold slot t
 unfoldable pub openIn : ℕ → List ℕ → List ℕ → ℕ → ℕ
 openIn n first last t = mask n λ i. inTime first last i t
@@ -46,6 +50,15 @@ lateTrains y r s = ones (bitAnd s (needing (y .trains) (received y) (r - s)))
 
 abbrev pub slotCost : Yard → Contribution
 slotCost y t r s = y .revisit * lateTrains y r s + y .split * fromOutside (y .trains) (received y) s
+
+-- what a slot contributes in which s is served (order 6 of 02): its cost, and beside it its direct moves, the boxes that s receives from
+-- within. They decide nothing, so planning's tables hold none of them: they are counted for the row that is returned.
+pub record Share : Type 0 where
+  pub cost : ℕ
+  pub direct : ℕ
+
+abbrev pub slotShare : Yard → ℕ → ℕ → ℕ → Share
+slotShare y t r s = record { cost = slotCost y t r s; direct = fromInside (y .trains) (received y) s }
 
 -- the trains that remain before the slot: summed over the slots, the sum of slot numbers over all trains
 abbrev pub waiting : Contribution

@@ -13,11 +13,11 @@ use Rattle.day.specs.declared.Refusal.{Refusal}
 use Rattle.dayfile.specs.Reading.{readDay}
 use Rattle.planning.specs.Planning.{costWords, choiceWords, Stays}
 use Rattle.planning.specs.Laws.{Left}
-use Rattle.telling.specs.Telling.{numbersAfter}
+use Rattle.telling.specs.Telling.{numberCount, numbersAfter}
 use Rattle.telling.specs.Laws.{Told, told-same, told-after, none-told, no-room, with-room}
 use Rattle.text_plan.specs.TextPlan.{planFor, rowFor, openFor, slotsIn, slotsFor}
 
--- ---- a day that was read, where there is room for three numbers: what planning answers and leaves, and that it is told
+-- ---- a day that was read, where there is room for four numbers: what planning answers and leaves, and that it is told
 
 pub record PlansDay (l : Limits) (y : Yard) (cost₀ choice₀ row₀ numbers₀ : List ℕ) (returned : ℕ) (cost choice row numbers : List ℕ) (trains : ℕ) : Type 0 where
   pub said : Answer Outcome
@@ -36,20 +36,20 @@ pub record PlansText (l : Limits) (text cost₀ choice₀ row₀ numbers₀ : Li
   pub written : trains ≡ slotsFor l text (length cost₀) (length choice₀) (length row₀) (length numbers₀)
 
 module _ (l : Limits) (text cost choice row numbers : List ℕ) where
-  pub plans-nothing : leb 3 (length numbers) ≡ false → PlansText l text cost choice row numbers 10 cost choice row numbers 0
+  pub plans-nothing : leb numberCount (length numbers) ≡ false → PlansText l text cost choice row numbers 10 cost choice row numbers 0
   unfolding planFor rowFor openFor slotsFor
   plans-nothing h =
       let e = no-room l text (length numbers) h in
       record { says = rw e; numbersAre = none-told _ numbers h; rowIs = rw e; costs = rw e; choices = rw e; written = rw e }
 
-  pub plans-refused : {said : ℕ} {numbers′ : List ℕ} (r : Refusal) → leb 3 (length numbers) ≡ true → readDay l text ≡ refusal r → Told numbers (refusal r) said numbers′
+  pub plans-refused : {said : ℕ} {numbers′ : List ℕ} (r : Refusal) → leb numberCount (length numbers) ≡ true → readDay l text ≡ refusal r → Told numbers (refusal r) said numbers′
       → PlansText l text cost choice row numbers said cost choice row numbers′ 0
   unfolding planFor rowFor openFor slotsFor
   plans-refused {said} {numbers′} r h f t =
       let e = with-room l text (length numbers) h f in
       record { says = rw e (t .says); numbersAre = rw e (told-after h t); rowIs = rw e; costs = rw e; choices = rw e; written = rw e }
 
-  pub plans-day : {returned : ℕ} {cost′ choice′ row′ numbers′ : List ℕ} {trains : ℕ} (y : Yard) → leb 3 (length numbers) ≡ true → readDay l text ≡ gives y
+  pub plans-day : {returned : ℕ} {cost′ choice′ row′ numbers′ : List ℕ} {trains : ℕ} (y : Yard) → leb numberCount (length numbers) ≡ true → readDay l text ≡ gives y
       → PlansDay l y cost choice row numbers returned cost′ choice′ row′ numbers′ trains → PlansText l text cost choice row numbers returned cost′ choice′ row′ numbers′ trains
   unfolding planFor rowFor openFor slotsFor
   plans-day y h f p =

@@ -1,5 +1,5 @@
 -- Planning the day of a text: what is answered, and what is left in the row, in the two areas and in the number of trains. Where the text
--- is no day file, or there is no room to tell three numbers, planning does not begin and all of it stays.
+-- is no day file, or there is no room to tell four numbers, planning does not begin and all of it stays.
 -- Assumes nothing.
 use mathlib.Core.List.{List}
 use Prim.Native.Nat.{ℕ}

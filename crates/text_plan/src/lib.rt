@@ -1,4 +1,4 @@
-// Planning the day of a text, for callers who want slots and numbers: the slots in a lent row, three numbers, the number of trains.
+// Planning the day of a text, for callers who want slots and numbers: the slots in a lent row, four numbers, the number of trains.
 //
 // Proved: for every text and all lent memory `plan_text` answers and leaves what specs/TextPlan.antt says, by the definitions of reading and
 // of planning. Assumes nothing.
@@ -8,14 +8,14 @@ ghost use lib.ListN.{length};
 ghost use Rattle.day.specs.Answer.{code};
 ghost use Rattle.day.specs.Sound.{dayLimits, yard};
 ghost use Rattle.planning.specs.Planning.{costWords, choiceWords, Stays};
-ghost use Rattle.telling.specs.Telling.{numbersAfter};
+ghost use Rattle.telling.specs.Telling.{numberCount, numbersAfter};
 ghost use Rattle.text_plan.specs.TextPlan.{planFor, rowFor, openFor, slotsFor};
 ghost use Rattle.text_plan.specs.Laws.{PlansDay};
 use day::Day;
 use day::Verdict;
 use planning::Planned;
 
-// Plans a day that was read, and tells the three numbers or the refusal.
+// Plans a day that was read, and tells the four numbers or the refusal.
 fn plan_day(
     day: Day,
     cost: &mut [u64],
@@ -24,7 +24,7 @@ fn plan_day(
     numbers: &mut [u64],
     trains: &mut usize,
 ) -> u64
-    requires { ⌜ 3 ≤ length (now numbers) ⌝ }
+    requires { ⌜ numberCount ≤ length (now numbers) ⌝ }
     ensures { λ r. ⌜ PlansDay dayLimits (yard day) (now (cost .entry)) (now (choice .entry)) (now (row .entry)) (now (numbers .entry)) r (now (cost .exit)) (now (choice .exit)) (now (row .exit)) (now (numbers .exit)) (now (trains .exit)) ⌝ }
 {
     match planning::plan(day, cost, choice, row) {
@@ -40,8 +40,8 @@ fn plan_day(
     }
 }
 
-// Plans the day of a text: 0 with the slots in the first bytes of `row`, the three numbers in the first `numbers` and the number of slots
-// in `trains`; or the number of the refusal with what it carries. 10 where there is no room for three numbers comes before reading, 10
+// Plans the day of a text: 0 with the slots in the first bytes of `row`, the four numbers in the first `numbers` and the number of slots
+// in `trains`; or the number of the refusal with what it carries. 10 where there is no room for four numbers comes before reading, 10
 // where an area or the row is too short after it.
 pub fn plan_text(
     text: &[u8],

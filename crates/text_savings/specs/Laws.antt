@@ -16,7 +16,7 @@ use Rattle.planning.specs.Planning.{costArea, choiceArea}
 use Rattle.comparing.specs.Comparing.{Comparison, comparisonOf, comparisonOrZero}
 use Rattle.baselines.specs.Baselines.{compared}
 use Rattle.comparing.specs.declared.Baseline.{Baseline}
-use Rattle.telling.specs.Telling.{three, numbersAfter}
+use Rattle.telling.specs.Telling.{numberCount, numbersTold, numbersAfter}
 use Rattle.telling.specs.Laws.{Told, none-told}
 use Rattle.text_savings.specs.TextSavings.{compareText, outcomes}
 
@@ -24,7 +24,7 @@ use Rattle.text_savings.specs.TextSavings.{compareText, outcomes}
 
 pub record ToldSaving (before : List ℕ) (a : Answer Comparison) (said : ℕ) (after : List ℕ) (saved : ℤ) : Type 0 where
   pub says : said ≡ code a
-  pub numbers : after ≡ three (outcomes a) ++ drop 3 before
+  pub numbers : after ≡ numbersTold (outcomes a) ++ drop numberCount before
   pub saving : saved ≡ comparisonOrZero a .saving
 
 code-outcomes : (a : Answer Comparison) → code (outcomes a) ≡ code a
@@ -45,14 +45,14 @@ told-refused r t = record { says = t .says; numbers = t .numbers; saving = refl 
 -- ---- each answer for a text
 
 module _ (l : Limits) (text numbers : List ℕ) (procedure : Yard → List ℕ) where
-  pub no-saving : leb 3 (length numbers) ≡ false
+  pub no-saving : leb numberCount (length numbers) ≡ false
       → (10 ≡ code (compareText procedure l text (length numbers)))
       × ((numbers ≡ numbersAfter (outcomes (compareText procedure l text (length numbers))) numbers)
       × (pos 0 ≡ comparisonOrZero (compareText procedure l text (length numbers)) .saving))
   unfolding compareText
   no-saving h = (rw h, (none-told _ numbers h, rw h))
 
-  pub told-saving : {a : Answer Comparison} {said : ℕ} {after : List ℕ} {saving : ℤ} → leb 3 (length numbers) ≡ true
+  pub told-saving : {a : Answer Comparison} {said : ℕ} {after : List ℕ} {saving : ℤ} → leb numberCount (length numbers) ≡ true
       → onGiven (readDay l text) (λ y. compared l y (procedure y) costArea choiceArea) ≡ a → ToldSaving numbers a said after saving
       → (said ≡ code (compareText procedure l text (length numbers)))
       × ((after ≡ numbersAfter (outcomes (compareText procedure l text (length numbers))) numbers)

@@ -9,7 +9,7 @@ ghost use Rattle.day.specs.Sound.{dayLimits, yard};
 ghost use Rattle.planning.specs.Planning.{costArea, choiceArea};
 ghost use Rattle.comparing.specs.Comparing.{comparisonOf, comparisonOrZero};
 ghost use Rattle.baselines.specs.Baselines.{rowBy, compared};
-ghost use Rattle.telling.specs.Telling.{numbersAfter};
+ghost use Rattle.telling.specs.Telling.{numberCount, numbersAfter};
 ghost use Rattle.text_savings.specs.TextSavings.{compareText, outcomes};
 ghost use Rattle.text_savings.specs.Laws.{ToldSaving};
 use baselines::Procedure;
@@ -19,7 +19,7 @@ use day::Verdict;
 
 // Stores the numbers of a comparison, or what its refusal carries, and the saving.
 fn tell_baseline(baseline: Baseline, numbers: &mut [u64], saving: &mut i64) -> u64
-    requires { ⌜ 3 ≤ length (now numbers) ⌝ }
+    requires { ⌜ numberCount ≤ length (now numbers) ⌝ }
     requires { ⌜ comparisonOf baseline ≡ comparisonOrZero (judged (baseline .verdict) (comparisonOf baseline)) ⌝ }
     ensures { λ r. ⌜ ToldSaving (now (numbers .entry)) (judged (baseline .verdict) (comparisonOf baseline)) r (now (numbers .exit)) (now (saving .exit)) ⌝ }
 {
@@ -37,7 +37,7 @@ fn tell_baseline(baseline: Baseline, numbers: &mut [u64], saving: &mut i64) -> u
 
 // Compares a day that was read. The areas are local; they suffice for every sound day.
 fn compare_day(procedure: Procedure, day: Day, numbers: &mut [u64], saving: &mut i64) -> u64
-    requires { ⌜ 3 ≤ length (now numbers) ⌝ }
+    requires { ⌜ numberCount ≤ length (now numbers) ⌝ }
     ensures { λ r. ⌜ ToldSaving (now (numbers .entry)) (compared dayLimits (yard day) (rowBy procedure (yard day)) costArea choiceArea) r (now (numbers .exit)) (now (saving .exit)) ⌝ }
 {
     let mut cost = [0u64; 4096];
@@ -46,7 +46,7 @@ fn compare_day(procedure: Procedure, day: Day, numbers: &mut [u64], saving: &mut
     tell_baseline(baseline, numbers, saving)
 }
 
-// Compares the day of a text: 10 where there is no room for three numbers, and then none changes.
+// Compares the day of a text: 10 where there is no room for four numbers, and then none changes.
 pub fn compare_text(procedure: Procedure, text: &[u8], numbers: &mut [u64], saving: &mut i64) -> u64
     ensures { λ r. ⌜ r ≡ code (compareText (rowBy procedure) dayLimits (now (text .entry)) (length (now (numbers .entry)))) ⌝ }
     ensures { λ _. ⌜ now (numbers .exit) ≡ numbersAfter (outcomes (compareText (rowBy procedure) dayLimits (now (text .entry)) (length (now (numbers .entry))))) (now (numbers .entry)) ⌝ }

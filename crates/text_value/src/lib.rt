@@ -8,7 +8,7 @@ ghost use Rattle.day.specs.Answer.{code};
 ghost use Rattle.day.specs.Sound.{dayLimits, yard};
 ghost use Rattle.valuing.specs.Valuing.{valued};
 ghost use Rattle.dayfile.specs.Reading.{readDay};
-ghost use Rattle.telling.specs.Telling.{numbersAfter};
+ghost use Rattle.telling.specs.Telling.{numberCount, numbersAfter};
 ghost use Rattle.telling.specs.Laws.{Told};
 ghost use Rattle.text_value.specs.TextValue.{line, valueText};
 use day::Day;
@@ -37,7 +37,7 @@ pub fn check_text(text: &[u8], at: &mut u64) -> u64
 
 // Values a row of a day that was read.
 fn value_day(day: Day, row: &[u8], numbers: &mut [u64]) -> u64
-    requires { ⌜ 3 ≤ length (now numbers) ⌝ }
+    requires { ⌜ numberCount ≤ length (now numbers) ⌝ }
     ensures { λ r. ⌜ Told (now (numbers .entry)) (valued dayLimits (yard day) (now (row .entry))) r (now (numbers .exit)) ⌝ }
 {
     match valuing::value_assignment(day, row) {
@@ -49,8 +49,8 @@ fn value_day(day: Day, row: &[u8], numbers: &mut [u64]) -> u64
     }
 }
 
-// Values a row of slots on the day of a text: 0 with revisits, split moves and cost in the first three numbers; or the number of the
-// refusal with what it carries there, zeros behind it. 10 where there is no room for three numbers, and then none changes.
+// Values a row of slots on the day of a text: 0 with revisits, split moves, direct moves and cost in the first four numbers; or the number of the
+// refusal with what it carries there, zeros behind it. 10 where there is no room for four numbers, and then none changes.
 pub fn value_text(text: &[u8], row: &[u8], numbers: &mut [u64]) -> u64
     ensures { λ r. ⌜ r ≡ code (valueText dayLimits (now (text .entry)) (now (row .entry)) (length (now (numbers .entry)))) ⌝ }
     ensures { λ _. ⌜ now (numbers .exit) ≡ numbersAfter (valueText dayLimits (now (text .entry)) (now (row .entry)) (length (now (numbers .entry)))) (now (numbers .entry)) ⌝ }

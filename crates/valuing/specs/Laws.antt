@@ -16,6 +16,7 @@ use Rattle.fold.specs.Counting.{le-or-lt}
 use Rattle.fold.specs.Fold
 use Rattle.fold.specs.Fold.{each, each-at, each-i, lowest, lowest-passes, lowest-before, each-lowest, lowest-each}
 use Rattle.model.specs.Model.{Yard, slotOf, firstSlot, lastSlot, Outcome, outcome, inSlots, inTime, inWindow, roomy, kept, parted, allowed}
+use Rattle.model.specs.Moves.{AllMoved, all-moved}
 use Rattle.model.specs.Rows
 use Rattle.model.specs.Rows.{windowed, fitting-tests, tests-fitting, allowed-fits, allowed-keeps, fits-allowed, both-le, le-both}
 use Rattle.model.specs.Groups.{GroupsUpTo, parted-parts, unparted-keeps}
@@ -179,3 +180,7 @@ module _ (l : Limits) (y : Yard) (row : List ℕ) where
           let (a, b, c) = sound-is l y s .windows i h in
           let (p, q) = both-le (firstSlot y i) (slotOf row i) (slotOf row i) (lastSlot y i) (unfold inTime inWindow in each-at (y .trains) (inWindow (y .first) (y .last) row) w i h) in
           unfold inSlots in le-both 1 (slotOf row i) (slotOf row i) (y .slots) (omega arith, omega arith))
+
+  -- order 6: direct and split moves are all boxes of the day
+  pub valued-boxes : (o : Outcome) → valued l y row ≡ gives o → AllMoved y o
+  valued-boxes o e = subst (AllMoved y) (allowed-valued o e .2) (all-moved y row)

@@ -1,5 +1,5 @@
 -- What valuing answers, for any record and any row: the checks 8, 11, 12, 13 of document 01 and 17 of document 02 in this order, else the
--- model's three numbers.
+-- model's four numbers.
 -- Assumes nothing.
 use mathlib.Core.Bool.{Bool, not}
 use mathlib.Core.List.{List, [], _∷_}

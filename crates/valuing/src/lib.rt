@@ -1,5 +1,5 @@
-// Valuing a row of slots (document 01): the number of revisits, the number of split moves, and their weighted sum, or refusal 8, 11,
-// 12, 13 or 17.
+// Valuing a row of slots (document 01): the number of revisits, the number of split moves, their weighted sum and the number of direct
+// moves, or refusal 8, 11, 12, 13 or 17.
 //
 // Proved: for every record and every row `value_assignment` answers what `valued` of specs/Valuing.antt says. The functions below it
 // take slices, a width and numbers, so that records of other sizes use them too. Assumes nothing.
@@ -66,7 +66,7 @@ fn first_overfull(row: &[u8], n: usize, tracks: u32, slots: u8) -> u8
 }
 
 // Values a row on a sound day that is given by its head, the columns of its windows and groups and its boxes: 11, 12 with the lowest such
-// position, 13 with the lowest such slot, 17 with the lowest such group, else the three numbers. (Train numbers have no part in it.)
+// position, 13 with the lowest such slot, 17 with the lowest such group, else the four numbers. (Train numbers have no part in it.)
 pub fn value_row(
     l: Limits,
     head: Head,
@@ -99,7 +99,7 @@ pub fn value_row(
     Valued::Values(counting::value_slots(boxes, l.trains, row, n, head.revisit, head.split))
 }
 
-// Values a row of slots, 01's valuing: the three numbers, or refusal 8, 11, 12 with the lowest such position, 13 with the lowest such
+// Values a row of slots, 01's valuing: the four numbers, or refusal 8, 11, 12 with the lowest such position, 13 with the lowest such
 // slot, or 17 with the lowest parted group, checked in this order. For every record and every row; no lent byte changes.
 pub fn value_assignment(day: Day, row: &[u8]) -> Valued
     ensures { λ r. ⌜ answer r ≡ valued dayLimits (yard day) (now (row .entry)) ⌝ }

@@ -6,7 +6,7 @@ use Rattle.day.specs.Answer.{Answer, gives, refuses}
 
 -- YARD_VERSION of include/yard.h: it changes when a size or the meaning of a number does
 abbrev pub version : ℕ
-version = 2
+version = 3
 
 -- ---- the answer to a text: the count of bytes, 0 with a refusal
 

@@ -1,18 +1,19 @@
--- What the functions of include/yard.h can return, as the header says. With room for three numbers:
+-- What the functions of include/yard.h can return, as the header says. With room for four numbers:
 --   check-returns     yard_check: 0 to 7 or 15;
 --   value-returns     yard_value: 0 to 7, 15, 11 to 13 or 17, never 8;
 --   compare-returns   the comparing functions: 0 to 7, 15, 9, 16 or 14, never 8 and never 10;
 --   plan-returns      yard_plan, lent a row of 12 bytes: 0 to 7, 15, 9 or 16, never 8 and never 10.
--- And without room for three numbers:
+-- And without room for four numbers:
 --   no-numbers        all but yard_check: 10, whatever the text.
--- What they return means, on the day y that a text reads to, and with room for three numbers:
+-- What they return means, on the day y that a text reads to, and with room for four numbers:
 --   check-line        yard_check tells the line of the refusal, and 0 where there is none;
 --   value-exactly     yard_value gives numbers exactly where the row is allowed, and they are the model's;
 --   compare-is        the comparing functions answer what comparing the day does (`saves` of baselines says what that means);
+--   value-boxes, plan-boxes, compare-boxes   where numbers are given, direct and split moves are all boxes of the day;
 --   plan-exactly      yard_plan, lent a row of 12 bytes, gives a plan exactly where an allowed row exists: `plans-best` and `plans-none` of
 --                     text_plan say which, and what stands in the row.
 -- Assumes nothing.
-use mathlib.Core.Path.{_≡_, refl, sym, ap, subst}
+use mathlib.Core.Path.{_≡_, refl, sym, ap, _∙_, subst}
 use mathlib.Core.List.{List, [], _∷_}
 use mathlib.Core.Logic.{_⊎_, inl, inr, _↔_}
 use Prim.Native.Nat.{ℕ, _*_, _^_, _≤_, _<_, zero-le}
@@ -23,6 +24,7 @@ use lib.ListN.{length}
 use lib.Pow.{pow-mono}
 use borrow.Author.Tests.{le-leb, lt-leb}
 use Rattle.model.specs.Model.{Yard, Outcome, outcome, allowed, SomeRow}
+use Rattle.model.specs.Moves.{AllMoved}
 use Rattle.day.specs.Answer.{Answer, gives, refuses, code, onGiven}
 use Rattle.day.specs.AnswerLaws.{Only, only-given, only-wider}
 use Rattle.day.specs.Sound.{dayLimits, sound}
@@ -31,12 +33,13 @@ use Rattle.dayfile.specs.Reading.{readDay}
 use Rattle.dayfile.specs.RoundTrip.{read-sound}
 use Rattle.dayfile.specs.Refused.{FileRefusal, Lined, read-lined}
 use Rattle.valuing.specs.Valuing.{valued}
-use Rattle.valuing.specs.Laws.{valued-only, valued-allowed, allowed-valued}
+use Rattle.valuing.specs.Laws.{valued-only, valued-allowed, allowed-valued, valued-boxes}
 use Rattle.planning.specs.Planning.{costArea, choiceArea, planned}
-use Rattle.planning.specs.Answers.{areas-suffice, planned-only, from-best}
+use Rattle.planning.specs.Answers.{areas-suffice, planned-only, from-best, planned-boxes}
+use Rattle.comparing.specs.Comparing.{Comparison}
 use Rattle.baselines.specs.Baselines.{compared}
-use Rattle.baselines.specs.Savings.{compared-only}
-use Rattle.telling.specs.Telling.{dayFor, forDay}
+use Rattle.baselines.specs.Savings.{compared-only, compared-boxes}
+use Rattle.telling.specs.Telling.{numberCount, dayFor, forDay}
 use Rattle.telling.specs.Laws.{no-room, with-room}
 use Rattle.text_plan.specs.TextPlan.{planFor}
 use Rattle.text_plan.specs.Means.{plans-best}
@@ -69,15 +72,15 @@ module _ (text : List ℕ) where
       go (refuses k carries) h = of-reading k (h .0)
 
   -- the days that are read are sound, so a call on them never answers 8
-  for-sound : {X : Type 0} (own : ℕ → Type 0) (size : ℕ) (f : Yard → Answer X) → 3 ≤ size → ((y : Yard) → T (sound dayLimits y) → Only (λ k carries. own k) (f y))
+  for-sound : {X : Type 0} (own : ℕ → Type 0) (size : ℕ) (f : Yard → Answer X) → numberCount ≤ size → ((y : Yard) → T (sound dayLimits y) → Only (λ k carries. own k) (f y))
       → OfReading (code (forDay dayLimits text size f)) ⊎ own (code (forDay dayLimits text size f))
   for-sound own size f h g =
       returned own (forDay dayLimits text size f)
-      (subst (λ (a : Answer Yard). Only (Or own) (onGiven a f)) (sym (with-room dayLimits text size (le-leb 3 size h) refl))
+      (subst (λ (a : Answer Yard). Only (Or own) (onGiven a f)) (sym (with-room dayLimits text size (le-leb numberCount size h) refl))
       (only-given (Or own) (readDay dayLimits text) f (only-wider Lined (Or own) (readDay dayLimits text) (λ k carries q. inl (of-reading k (q .0))) (read-lined dayLimits text))
       λ y e. only-wider (λ k carries. own k) (Or own) (f y) (λ k carries q. inr q) (g y (read-sound dayLimits text y e))))
 
-  module _ (size : ℕ) (room : 3 ≤ size) where
+  module _ (size : ℕ) (room : numberCount ≤ size) where
     pub value-returns : (row : List ℕ) → let k = code (valueText dayLimits text row size) in ((k ≤ 7) ⊎ (k ≡ 15)) ⊎ (((11 ≤ k) × (k ≤ 13)) ⊎ (k ≡ 17))
     unfolding valueText
     value-returns row = for-sound (λ k. ((11 ≤ k) × (k ≤ 13)) ⊎ (k ≡ 17)) size (λ y. valued dayLimits y row) room λ y s. valued-only dayLimits y row s
@@ -102,9 +105,9 @@ module _ (text : List ℕ) where
   pub check-none : (y : Yard) → readDay dayLimits text ≡ gives y → (code (readDay dayLimits text) ≡ 0) × (line (readDay dayLimits text) ≡ 0)
   check-none y e = (ap code e, ap line e)
 
-  module _ (y : Yard) (reads : readDay dayLimits text ≡ gives y) (size : ℕ) (room : 3 ≤ size) where
+  module _ (y : Yard) (reads : readDay dayLimits text ≡ gives y) (size : ℕ) (room : numberCount ≤ size) where
     day : dayFor dayLimits text size ≡ gives y
-    day = with-room dayLimits text size (le-leb 3 size room) reads
+    day = with-room dayLimits text size (le-leb numberCount size room) reads
 
     pub value-allowed : (row : List ℕ) → T (allowed y row) → valueText dayLimits text row size ≡ gives (outcome y row)
     unfolding valueText
@@ -117,6 +120,19 @@ module _ (text : List ℕ) where
     pub compare-is : (procedure : Yard → List ℕ) → compareText procedure dayLimits text size ≡ compared dayLimits y (procedure y) 4096 32768
     unfolding compareText
     compare-is procedure = rw day
+
+    -- ---- order 6: direct and split moves are all boxes of the day
+
+    pub value-boxes : (row : List ℕ) (o : Outcome) → valueText dayLimits text row size ≡ gives o → AllMoved y o
+    unfolding valueText
+    value-boxes row o e = valued-boxes dayLimits y row o (rw day at e)
+
+    pub plan-boxes : (costs choices bytes : ℕ) (o : Outcome) → planFor dayLimits text costs choices bytes size ≡ gives o → AllMoved y o
+    unfolding planFor
+    plan-boxes costs choices bytes o e = planned-boxes dayLimits y costs choices bytes o (rw day at e)
+
+    pub compare-boxes : (procedure : Yard → List ℕ) (c : Comparison) → compareText procedure dayLimits text size ≡ gives c → AllMoved y (c .outcome)
+    compare-boxes procedure c e = compared-boxes dayLimits y 4096 32768 (procedure y) c (sym (compare-is procedure) ∙ e)
 
     pub plan-exactly : (row : List ℕ) → 12 ≤ length row → ((o : Outcome) × (planFor dayLimits text costArea choiceArea (length row) size ≡ gives o)) ↔ SomeRow y
     unfolding planFor
@@ -137,9 +153,9 @@ module _ (text : List ℕ) where
         back : (o : Outcome) → planned dayLimits y costArea choiceArea (length row) ≡ gives o → SomeRow y
         back o e = let b = from-best dayLimits y costArea choiceArea (length row) o e in (b .row, b .best .isAllowed)
 
-  module _ (size : ℕ) (short : size < 3) where
+  module _ (size : ℕ) (short : size < numberCount) where
     none : {X : Type 0} (f : Yard → Answer X) → code (forDay dayLimits text size f) ≡ 10
-    none f = rw (no-room dayLimits text size (lt-leb 3 size short))
+    none f = rw (no-room dayLimits text size (lt-leb numberCount size short))
 
     pub no-numbers : (row : List ℕ) (procedure : Yard → List ℕ) (costs choices bytes : ℕ)
         → (code (valueText dayLimits text row size) ≡ 10) × ((code (compareText procedure dayLimits text size) ≡ 10) × (code (planFor dayLimits text costs choices bytes size) ≡ 10))

@@ -25,7 +25,7 @@ use output::Wrote;
 pub extern "C" fn yard_version() -> u64
     ensures { λ r. ⌜ r ≡ version ⌝ }
 {
-    2
+    3
 }
 
 // What yard-plan prints for a text, in the first bytes of `out`, and their count; or 10, with a count of 0.
@@ -47,8 +47,8 @@ pub extern "C" fn yard_answer(text: &[u8], out: &mut [u8], bytes: &mut usize) ->
     }
 }
 
-// Plans the day of a text in lent work areas: 0 with the slots in the first bytes of `row`, revisits, split moves and cost in the first
-// three numbers, and the number of slots in `trains`; or the number of the refusal with what it carries there, and no slots.
+// Plans the day of a text in lent work areas: 0 with the slots in the first bytes of `row`, revisits, split moves, direct moves and cost in
+// the first four numbers, and the number of slots in `trains`; or the number of the refusal with what it carries there, and no slots.
 #[no_mangle]
 pub extern "C" fn yard_plan_in_workspace(
     text: &[u8],
@@ -95,8 +95,8 @@ pub extern "C" fn yard_check(text: &[u8], at: &mut u64) -> u64
     text_value::check_text(text, at)
 }
 
-// Values a row of slots on the day of a text: 0 with revisits, split moves and cost in the first three numbers; or the number of the
-// refusal with what it carries there, zeros behind it. 10 where there is no room for three numbers, and then none changes.
+// Values a row of slots on the day of a text: 0 with revisits, split moves, direct moves and cost in the first four numbers; or the number of the
+// refusal with what it carries there, zeros behind it. 10 where there is no room for four numbers, and then none changes.
 #[no_mangle]
 pub extern "C" fn yard_value(text: &[u8], row: &[u8], numbers: &mut [u64]) -> u64
     ensures { λ r. ⌜ r ≡ code (valueText dayLimits (now (text .entry)) (now (row .entry)) (length (now (numbers .entry)))) ⌝ }
@@ -107,9 +107,9 @@ pub extern "C" fn yard_value(text: &[u8], row: &[u8], numbers: &mut [u64]) -> u6
 
 // ---- what planning saves
 
-// First come, first served on the day of a text, against the best plan: 0 with its revisits, split moves and cost in the first three
-// numbers and the saving, its cost less the planned cost; or the number of the refusal with what it carries there, and a saving of 0. 10
-// where there is no room for three numbers, and then none changes.
+// First come, first served on the day of a text, against the best plan: 0 with its revisits, split moves, direct moves and cost in the first
+// four numbers and the saving, its cost less the planned cost; or the number of the refusal with what it carries there, and a saving of 0.
+// 10 where there is no room for four numbers, and then none changes.
 #[no_mangle]
 pub extern "C" fn yard_first_come_first_served(
     text: &[u8],

@@ -1,4 +1,4 @@
--- `counting::value_slots` meets its contract. The three numbers, each by its own function.
+-- `counting::value_slots` meets its contract. The four numbers, each by its own function.
 -- Assumes nothing.
 use mathlib.Core.Path.{ap₂, _∙_}
 use Rattle.model.specs.Model.{weighed}
@@ -13,16 +13,20 @@ count-revisits-requires c κs = search needs
 count-splits-requires : tie.Need-count-splits-requires
 count-splits-requires c κs = search needs
 
+count-direct-requires : tie.Need-count-direct-requires
+count-direct-requires c κs = search needs
+
 weigh-requires : tie.Need-weigh-requires
 weigh-requires c κs = search needs
 
 returns : tie.Need-returns
 returns c =
-    let a = c .before .before .count-revisits .ensures .0 in
-    let s = c .before .count-splits .ensures .0 in
-    let w = c .weigh .ensures ∙ ap₂ (weighed _ _) a s in
-    same-figures a s w
+    let r = c .before .before .before .count-revisits .ensures .0 in
+    let s = c .before .before .count-splits .ensures .0 in
+    let d = c .before .count-direct .ensures in
+    let w = c .weigh .ensures ∙ ap₂ (weighed _ _) r s in
+    same-figures r s d w
 
 pub value-slots-spec : {M : Type 1} → statement M
 value-slots-spec =
-    tie.close (tie.spec count-revisits-requires count-splits-requires weigh-requires returns)
+    tie.close (tie.spec count-revisits-requires count-splits-requires count-direct-requires weigh-requires returns)

@@ -1,13 +1,13 @@
 -- `planfile::put_values` meets its contract. The names line, and the row after it.
 -- Assumes nothing.
-use mathlib.Core.Path.{_≡_, ap, ap₂}
+use mathlib.Core.Path.{_≡_, refl, ap}
 use mathlib.Core.List.{[], _∷_}
-use Prim.Native.Nat.{ℕ}
 use native.Mathlib.Omega.{arith}
 use lib.ListN.{length, length-append}
 use Rattle.decimal.specs.PlaceLaws.{put-text}
 use Rattle.lines.specs.Lines.{rowText}
-use Rattle.counting.specs.Counting.{outcomeOf}
+use Rattle.model.specs.Model.{Outcome}
+use Rattle.counting.specs.Counting.{figures, outcomeOf, same-figures}
 use Rattle.planfile.specs.PlanText.{valueNames, valueRow}
 use borrow.Author.Needs.{needs}
 use Rattle.planfile.proofs.put_values.Statement.{statement}
@@ -17,8 +17,8 @@ use Rattle.planfile.proofs.put_values.Tie as tie
 abbrev start : tie.After-put-bytes-arg2 → tie.Start
 start c = c .before .before .before
 
-abbrev past-names : tie.After-count2 → tie.After-put-bytes
-past-names c = c .before .before .before .before .before
+abbrev past-names : tie.After-count3 → tie.After-put-bytes
+past-names c = c .before .before .before .before .before .before
 
 slice-aggregate-put-bytes : tie.Need-slice-aggregate-put-bytes
 slice-aggregate-put-bytes c = search needs
@@ -35,17 +35,21 @@ count-requires c κs = search needs
 count-requires-2 : tie.Need-count-requires-2
 count-requires-2 c κs = search needs
 
--- the row that is written: the two counts, opened, and the cost
-opened : (c : tie.After-count2)
+count-requires-3 : tie.Need-count-requires-3
+count-requires-3 c κs = search needs
+
+-- the row that is written: the three counts, opened, and the cost
+opened : (c : tie.After-count3)
     → let v = start (past-names c .before) .args .value in
-    rowText (c .before .count .result ∷ c .count2 .result ∷ v .cost ∷ []) ≡ rowText (valueRow (outcomeOf v))
+    rowText (c .before .before .count .result ∷ c .before .count2 .result ∷ c .count3 .result ∷ v .cost ∷ []) ≡ rowText (valueRow (outcomeOf v))
 opened c =
     let cost = start (past-names c .before) .args .value .cost in
-    ap₂ (λ (revisits splits : ℕ). rowText (revisits ∷ splits ∷ cost ∷ [])) (c .before .count .ensures) (c .count2 .ensures)
+    ap (λ (o : Outcome). rowText (valueRow o))
+    (same-figures {a = figures (c .before .before .count .result) (c .before .count2 .result) (c .count3 .result) cost} (c .before .before .count .ensures) (c .before .count2 .ensures) (c .count3 .ensures) refl)
 
-put-three-requires : tie.Need-put-three-requires
+put-four-requires : tie.Need-put-four-requires
 unfolding valueNames
-put-three-requires c κs =
+put-four-requires c κs =
     let b = past-names c in
     let s = start (b .before) .args in
     omega (arith, length-append valueNames (rowText (valueRow (outcomeOf (s .value)))), b .put-bytes .ensures .next, ap length (opened c))
@@ -59,9 +63,9 @@ returns c =
     let r = c .before .before in
     let b = past-names (r .before) in
     let s = start (b .before) .args in
-    put-text {b = rowText (valueRow (outcomeOf (s .value)))} (b .put-bytes .ensures) (rw (← opened (r .before)) (r .put-three .ensures))
+    put-text {b = rowText (valueRow (outcomeOf (s .value)))} (b .put-bytes .ensures) (rw (← opened (r .before)) (r .put-four .ensures))
 
 pub put-values-spec : {M : Type 1} → statement M
 put-values-spec =
     tie.close
-    (tie.spec slice-aggregate-put-bytes put-bytes-requires count-requires count-requires-2 put-three-requires same-length returns)
+    (tie.spec slice-aggregate-put-bytes put-bytes-requires count-requires count-requires-2 count-requires-3 put-four-requires same-length returns)

@@ -8,8 +8,8 @@ use Rattle.telling.proofs.tell.Tie as tie
 in-numbers-requires : tie.Need-in-numbers-requires
 in-numbers-requires c κs = search needs
 
-store-three-requires : tie.Need-store-three-requires
-store-three-requires c κs = search needs
+store-four-requires : tie.Need-store-four-requires
+store-four-requires c κs = search needs
 
 same-length : tie.Need-same-length
 same-length c = search needs
@@ -18,7 +18,7 @@ returns : tie.Need-returns
 returns c =
     let t = c .before .before in
     let k = t .before .before in
-    told-refusal (k .before .before .args .given) (k .in-numbers .result) (k .in-numbers .ensures) (t .store-three .ensures)
+    told-refusal (k .before .before .args .given) (k .in-numbers .result) (k .in-numbers .ensures) (t .store-four .ensures)
 
 pub tell-spec : {M : Type 1} → statement M
-tell-spec = tie.close (tie.spec in-numbers-requires store-three-requires same-length returns)
+tell-spec = tie.close (tie.spec in-numbers-requires store-four-requires same-length returns)

@@ -10,6 +10,7 @@ use Rattle.fold.specs.Test.{of-true}
 use Rattle.day.specs.Answer.{gives, refusal, judged}
 use Rattle.day.specs.Sound.{dayLimits, yard}
 use Rattle.dayfile.specs.Reading.{readDay}
+use Rattle.telling.specs.Telling.{numberCount}
 use Rattle.text_plan.specs.Laws.{plans-nothing, plans-refused, plans-day}
 use borrow.Author.Needs.{needs}
 use Rattle.text_plan.proofs.plan_text.Statement.{statement}
@@ -32,12 +33,12 @@ past-reading c = c .before .before .before .before .before
 abbrev past-plan : tie.After-slice-known8 → tie.After-plan-day
 past-plan c = c .before .before .before .before .before .before .before .before
 
--- there is room for three numbers
-room : (c : tie.Else1) → leb 3 (length (start c .args .numbers .now)) ≡ true
+-- there is room for four numbers
+room : (c : tie.Else1) → leb numberCount (length (start c .args .numbers .now)) ≡ true
 room c = sym (c .before .is-room .ensures) ∙ not-false (c .before .is-room .result) (c .if1 .left)
 
-fits : (c : tie.Else1) → 3 ≤ length (start c .args .numbers .now)
-fits c = leb→le 3 _ (of-true (room c))
+fits : (c : tie.Else1) → numberCount ≤ length (start c .args .numbers .now)
+fits c = leb→le numberCount _ (of-true (room c))
 
 -- the two cases of reading
 accepted : (c : tie.After-enum-told) → readDay dayLimits (start (past-room c) .args .text .now) ≡ gives (yard (c .before .before .read-day .result .day))
