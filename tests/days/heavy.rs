@@ -3,7 +3,7 @@
 
 use crate::draw::{draw_heavy, Random};
 use crate::model::{rank, revisiting, split_moves_to, weighed, Day, Rank, MOST_SLOTS};
-use crate::plan::{allowed, best, first_by};
+use crate::plan::{best, first_by, SEARCH};
 use std::ops::RangeInclusive;
 
 /// The widths that a day can show. A slot costs less than 2^30: of 12 trains
@@ -26,7 +26,7 @@ pub fn slot_costs(day: &Day, assignment: &[usize]) -> [usize; MOST_SLOTS] {
 /// The plan of one who keeps only the low bits of what a slot costs.
 fn plan_cut(day: &Day, bits: u32) -> Option<Vec<usize>> {
     let low = |cost: &usize| cost % (1 << bits);
-    first_by(day, allowed, |assignment| {
+    first_by(day, SEARCH, |assignment| {
         let cost = slot_costs(day, assignment).iter().map(low).sum();
         Rank { cost, ..rank(day, assignment) }
     })

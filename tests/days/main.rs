@@ -2,11 +2,11 @@
 //!
 //! It is a second opinion, written from the papers alone: its own reader of
 //! day files, its own planner that tries every assignment of slots within the
-//! windows, its own printer, and its own two baselines. The program under test
-//! is run as a process and its output compared byte for byte with what 01
-//! says. The functions of include/yard.h are called in the static library,
-//! with marked memory: what they return is compared, and each byte that was
-//! lent or lies around it.
+//! windows (a group's trains together), its own printer, and its own two
+//! baselines. The program under test is run as a process and its output
+//! compared byte for byte with what 01 says. The functions of include/yard.h
+//! are called in the static library, with marked memory: what they return is
+//! compared, and each byte that was lent or lies around it.
 //!
 //! Of allowed assignments that cost the same the planner takes the one that is
 //! first by order 5 of 02: fewest revisits, then the smallest sum of slot
@@ -75,6 +75,7 @@ mod misplannings;
 mod misreaders;
 mod misreadings;
 mod misreports;
+mod missteps;
 mod misvaluings;
 mod model;
 mod plan;
@@ -87,6 +88,7 @@ mod self_baselines;
 mod self_calls;
 mod self_check;
 mod self_direct;
+mod self_search;
 mod self_sets;
 mod self_ties;
 mod sets;

@@ -10,7 +10,7 @@
 //! before the revisits is 01's order alone.
 
 use crate::model::{rank, revisiting, value, Day, Rank, MOST_SLOTS, MOST_TRAINS};
-use crate::plan::{allowed, each_allowed};
+use crate::plan::{each_allowed, SEARCH};
 use std::cmp::Reverse;
 
 /// An allowed assignment, and what decides whether it comes first.
@@ -22,7 +22,7 @@ pub struct Tried {
 /// All allowed assignments of a day.
 pub fn try_all(day: &Day) -> Vec<Tried> {
     let mut all = Vec::new();
-    each_allowed(day, allowed, |assignment| {
+    each_allowed(day, SEARCH, |assignment| {
         all.push(Tried { assignment: assignment.to_vec(), rank: rank(day, assignment) });
     });
     all

@@ -48,7 +48,8 @@ pub struct Day {
 }
 
 impl Day {
-    /// How many assignments lie within the windows, hence are tried.
+    /// How many assignments lie within the windows; on a day without groups each
+    /// of them is tried.
     pub fn assignments(&self) -> usize {
         self.trains.iter().map(|train| train.last - train.first + 1).product()
     }

@@ -2,8 +2,10 @@
 
 use crate::boxes::all_boxes;
 use crate::day_file::{read_day, Refusal};
-use crate::model::{rank, value, within_tracks, Day, Train, Value, MOST_BYTES_READ};
-use crate::sets::{has_groups, keeps_groups, ungrouped};
+use crate::model::{
+    rank, value, within_tracks, within_windows, Day, Train, Value, MOST_BYTES_READ,
+};
+use crate::sets::{has_groups, keeps_groups, singly, ungrouped, units};
 
 // ---------------------------------------------------------------------------
 // Planning by trying all assignments (01, The calls)
@@ -23,18 +25,6 @@ pub struct Interval {
     pub bound: usize,
 }
 
-/// Steps like an odometer through the windows; false after the last.
-fn step(day: &Day, assignment: &mut [usize]) -> bool {
-    for (slot, train) in assignment.iter_mut().zip(&day.trains).rev() {
-        if *slot < train.last {
-            *slot += 1;
-            return true;
-        }
-        *slot = train.first;
-    }
-    false
-}
-
 /// Whether an assignment within the windows is allowed.
 pub type Allowed = fn(&Day, &[usize]) -> bool;
 
@@ -42,27 +32,100 @@ pub fn allowed(day: &Day, assignment: &[usize]) -> bool {
     within_tracks(day, assignment) && keeps_groups(day, assignment)
 }
 
-/// Visits each assignment within the windows that is allowed.
-pub fn each_allowed(day: &Day, allowed: Allowed, mut visit: impl FnMut(&[usize])) {
-    let mut assignment: Vec<usize> = day.trains.iter().map(|train| train.first).collect();
+/// A group's slot is tried in the window of its first train only, and the other
+/// trains have windows of their own.
+fn allowed_within(day: &Day, assignment: &[usize]) -> bool {
+    within_windows(day, assignment) && allowed(day, assignment)
+}
+
+/// Which assignments are tried, and which of them are allowed. Trains of a unit
+/// take one slot together; a train is in one unit.
+#[derive(Clone, Copy)]
+pub struct Search {
+    pub units: fn(&Day) -> Vec<Vec<usize>>,
+    pub step: fn(&Day, &[Vec<usize>], &mut [usize]) -> bool,
+    pub allowed: Allowed,
+}
+
+/// Finds what the papers allow. An assignment that keeps the groups is known by
+/// the slots of each group's first train and of the trains in no group, so the
+/// others are not tried: mode self holds that this leaves none out.
+pub const SEARCH: Search = Search { units: units_in_order, step, allowed: allowed_within };
+
+/// Tries each assignment within the windows: what the caller chooses may part
+/// groups.
+pub fn try_each(allowed: Allowed) -> Search {
+    Search { units: singly, step, allowed }
+}
+
+/// The units by their first positions, so that the order in which assignments
+/// are visited is that of trying each.
+fn units_in_order(day: &Day) -> Vec<Vec<usize>> {
+    let mut units = units(day);
+    units.sort();
+    units
+}
+
+/// Puts the trains of a unit into a slot.
+fn put(unit: &[usize], slot: usize, assignment: &mut [usize]) {
+    unit.iter().for_each(|&position| assignment[position] = slot);
+}
+
+/// Each unit in the first slot of its first train.
+fn start(day: &Day, units: &[Vec<usize>]) -> Vec<usize> {
+    let mut assignment = vec![0; day.trains.len()];
+    units.iter().for_each(|unit| put(unit, day.trains[unit[0]].first, &mut assignment));
+    assignment
+}
+
+/// Steps like an odometer through the windows of the units' first trains; false
+/// after the last.
+fn step(day: &Day, units: &[Vec<usize>], assignment: &mut [usize]) -> bool {
+    for unit in units.iter().rev() {
+        let (slot, train) = (assignment[unit[0]], &day.trains[unit[0]]);
+        if slot < train.last {
+            put(unit, slot + 1, assignment);
+            return true;
+        }
+        put(unit, train.first, assignment);
+    }
+    false
+}
+
+/// Visits each assignment that is tried and allowed.
+pub fn each_allowed(day: &Day, search: Search, mut visit: impl FnMut(&[usize])) {
+    let units = (search.units)(day);
+    let mut assignment = start(day, &units);
     loop {
-        if allowed(day, &assignment) {
+        if (search.allowed)(day, &assignment) {
             visit(&assignment);
         }
-        if !step(day, &mut assignment) {
+        if !(search.step)(day, &units, &mut assignment) {
             return;
         }
     }
 }
 
-/// The allowed assignment of the lowest rank, by the given ranks; each is tried.
+/// Whether there is an allowed assignment: after the first one none is tried.
+pub fn any_allowed(day: &Day) -> bool {
+    let units = units_in_order(day);
+    let mut assignment = start(day, &units);
+    while !allowed_within(day, &assignment) {
+        if !step(day, &units, &mut assignment) {
+            return false;
+        }
+    }
+    true
+}
+
+/// The allowed assignment of the lowest rank, by the given ranks.
 pub fn first_by<R: Ord>(
     day: &Day,
-    allowed: Allowed,
+    search: Search,
     rank: impl Fn(&[usize]) -> R,
 ) -> Option<Vec<usize>> {
     let mut first: Option<(R, Vec<usize>)> = None;
-    each_allowed(day, allowed, |assignment| {
+    each_allowed(day, search, |assignment| {
         let rank = rank(assignment);
         if first.as_ref().is_none_or(|(lowest, _)| rank < *lowest) {
             first = Some((rank, assignment.to_vec()));
@@ -73,12 +136,16 @@ pub fn first_by<R: Ord>(
 
 /// The best plan.
 pub fn best(day: &Day) -> Option<Plan> {
-    best_by(day, allowed)
+    best_of(day, SEARCH)
 }
 
 /// The best plan among assignments of the caller's choice.
 pub fn best_by(day: &Day, allowed: Allowed) -> Option<Plan> {
-    let assignment = first_by(day, allowed, |assignment| rank(day, assignment))?;
+    best_of(day, try_each(allowed))
+}
+
+fn best_of(day: &Day, search: Search) -> Option<Plan> {
+    let assignment = first_by(day, search, |assignment| rank(day, assignment))?;
     let numbers = day.trains.iter().map(|train| train.number).collect();
     let value = value(day, &assignment);
     Some(Plan { numbers, assignment, value })
@@ -123,7 +190,7 @@ pub fn plan(day: &Day) -> Answer {
     match (best(day), first_overbooked(day)) {
         (Some(plan), None) => Answer::Plan(plan),
         (None, Some(interval)) => Answer::Overbooked(interval),
-        (None, None) if has_groups(day) && best(&ungrouped(day)).is_some() => Answer::Unkept,
+        (None, None) if has_groups(day) && any_allowed(&ungrouped(day)) => Answer::Unkept,
         (found, interval) => broken(&format!("{day:?} has {found:?}, yet {interval:?}")),
     }
 }

@@ -16,6 +16,7 @@ use crate::plan::{allowed, answer, best, expected, Answer};
 use crate::self_baselines::check_baselines;
 use crate::self_calls::check_calls;
 use crate::self_direct::check_direct;
+use crate::self_search::check_search;
 use crate::self_sets::check_sets;
 use crate::self_ties::check_ties;
 use crate::special::{greatest_day, greatest_ungrouped, last_move, longest_plan_day, padded};
@@ -172,6 +173,7 @@ pub fn check_self() -> bool {
     check_sizes(&mut tests);
     check_baselines(&mut tests);
     check_calls(&mut tests);
+    check_search(&mut tests);
     check_sets(&mut tests);
     check_ties(&mut tests);
     check_direct(&mut tests);
