@@ -14,6 +14,10 @@ figures revisits splits direct cost = record { revisits = revisits; splits = spl
 abbrev pub outcomeOf : Value → Outcome
 outcomeOf v = figures (v .revisits .0) (v .splits .0) (v .direct .0) (v .cost)
 
+-- field by field: what a caller finds under a name is the model's of that name
+pub named : (v : Value) → (outcomeOf v .revisits ≡ v .revisits .0) × (outcomeOf v .splits ≡ v .splits .0) × (outcomeOf v .direct ≡ v .direct .0) × (outcomeOf v .cost ≡ v .cost)
+named v = (refl, refl, refl, refl)
+
 -- what stands beside a refusal
 abbrev pub noOutcome : Outcome
 noOutcome = figures 0 0 0 0

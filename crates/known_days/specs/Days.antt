@@ -3,7 +3,7 @@
 use mathlib.Core.Bool.{cond}
 use mathlib.Core.List.{List, [], _∷_, _++_}
 use Prim.Native.Nat.{ℕ, suc, _+_, _-_, _*_, _/_, _%_}
-use lib.Dec.{eqb}
+use lib.Dec.{eqb, ltb}
 use lib.ListN.{length, set, replicate}
 use Rattle.fold.specs.Listed.{listed}
 use Rattle.day.specs.declared.Day.{Day}
@@ -54,6 +54,11 @@ fromTwelve = listed 11 λ i. move (suc i) 12 1
 unfoldable pub paired : List Move
 paired =
     move 1 2 1 ∷ move 1 3 2 ∷ move 1 4 4 ∷ move 2 1 8 ∷ move 2 4 16 ∷ move 3 1 32 ∷ move 3 4 64 ∷ move 4 2 128 ∷ []
+
+-- boxes to each of n trains from each one before it, another number for each pair
+unfoldable pub oneWay : ℕ → List Move
+unfolding listed
+oneWay n = listed (12 * n) λ q. move (suc (q / 12)) (suc (q % 12)) (cond (ltb (q % 12) (q / 12)) (suc q) 0)
 
 -- 255 boxes to each of 12 trains from each other one
 unfoldable pub fullest : List Move

@@ -30,7 +30,7 @@ use Rattle.procedures.specs.Procedures.{trackFree, waits, suits, earliest, come
 use Rattle.comparing.specs.Comparing.{Comparison, against}
 use Rattle.baselines.specs.Baselines.{compared}
 use Rattle.known_days.specs.Lines.{Line, values, best, later, refused, unkept, accepted, plans, compares, comparesIn, Holds, sameOutcome, sameInt, sameComparison, sameAnswer, isRow, isNone, isInterval, noInterval, passes, line-holds}
-use Rattle.known_days.specs.Days.{move, dayOf, openDay, weightless, fromTwelve, paired, fullest, paperDay, numbered, inGroups}
+use Rattle.known_days.specs.Days.{move, dayOf, openDay, weightless, fromTwelve, paired, oneWay, fullest, paperDay, numbered, inGroups}
 
 -- ---- the table
 
@@ -38,7 +38,7 @@ abbrev pub saving : Outcome → ℕ → Answer Comparison
 saving o saved = gives record { outcome = o; saving = pos saved }
 
 unfoldable pub table : List Line
-unfolding dayOf openDay weightless fromTwelve paired fullest paperDay numbered inGroups
+unfolding dayOf openDay weightless fromTwelve paired oneWay fullest paperDay numbered inGroups
 table =
     -- P1 to P3, the source's example
     best (paperDay 1 1 1) (2 ∷ 1 ∷ 2 ∷ 1 ∷ []) (figures 1 7 9 8)
@@ -100,6 +100,10 @@ table =
     ∷ values (openDay 4 4 4 paired) (4 ∷ 4 ∷ 4 ∷ 1 ∷ []) (gives (figures 1 212 43 213))
     ∷ values (openDay 4 4 4 paired) (1 ∷ 2 ∷ 3 ∷ 4 ∷ []) (gives (figures 3 255 0 258))
     ∷ values (openDay 12 12 8 fullest) (replicate 12 8) (gives (figures 0 0 33660 0))
+    -- boxes one way between all trains, of twelve, of eleven and of five in two groups
+    ∷ values (openDay 12 12 8 (oneWay 12)) (1 ∷ 2 ∷ 3 ∷ 4 ∷ 5 ∷ 6 ∷ 7 ∷ 8 ∷ 8 ∷ 7 ∷ 6 ∷ 5 ∷ []) (gives (figures 3 5876 482 5879))
+    ∷ values (openDay 11 11 8 (oneWay 11)) (7 ∷ 7 ∷ 7 ∷ 5 ∷ 5 ∷ 5 ∷ 6 ∷ 6 ∷ 6 ∷ 8 ∷ 8 ∷ []) (gives (figures 6 4167 673 4173))
+    ∷ values (inGroups (1 ∷ 1 ∷ 2 ∷ 2 ∷ 0 ∷ []) (openDay 5 5 1 (oneWay 5))) (replicate 5 1) (gives (figures 0 0 380 0))
     -- the limits of the head on both sides: trains and tracks 1 and 12, 0 and 13; slots 1 and 8, 0 and 9; weights 0 and 65535, 65536
     ∷ accepted (openDay 12 12 8 []) true
     ∷ accepted (openDay 1 1 1 []) true

@@ -25,13 +25,13 @@ use Rattle.model.specs.Overbooked.{firstOverbooked, overbookedFrom, overbookedF
 use Rattle.day.specs.Answer.{Answer, gives, refuses}
 use Rattle.day.specs.Sound.{dayLimits, yard, within, headRanges, trainRanges, moveRanges, groupRanges, headRow, shaped, sound, numberBefore, trainSound, unused, positionSound, groupSound, pairSound, receiverSound}
 use Rattle.day.specs.declared.Day.{Day}
-use Rattle.known_days.specs.Days.{move, dayOf, openDay, paperDay, numbered, inGroups}
+use Rattle.known_days.specs.Days.{move, dayOf, openDay, paperDay, numbered, inGroups, oneWay}
 use Rattle.known_days.specs.Lines.{sameAnswer, same-answer}
 use Rattle.decimal.specs.Decimal.{more, value, digitsWithin}
 use Rattle.lines.specs.Lines.{ascii, byte, names, field, row, rowText, rowsText}
-use Rattle.output.specs.Output.{writes}
+use Rattle.output.specs.Output.{writes, leaves}
 use Rattle.valuing.specs.Valuing.{strays, overfull}
-use Rattle.planfile.specs.PlanText.{valueNames, slotNames, planLines, planWrites}
+use Rattle.planfile.specs.PlanText.{valueNames, slotNames, planLines, planWrites, planLeaves}
 use Rattle.refusal_text.specs.RefusalText.{lineNames, intervalNames, refusalText}
 use Rattle.answering.specs.Answering.{answerText, answerWrites}
 use Rattle.dayfile.specs.Reading
@@ -51,6 +51,7 @@ pub data Line : Type 0 where
   answers : List ℕ → ℕ → Answer ℕ → Line
   writesDay : Day → ℕ → Answer ℕ → Line
   writesPlan : Day → List ℕ → ℕ → Answer ℕ → Line
+  leavesPlan : Day → List ℕ → List ℕ → Line
 
 -- a record of zeros
 abbrev pub noDay : Day
@@ -81,6 +82,8 @@ Holds (answers text size a) = answerWrites dayLimits text size ≡ a
 -- writing the day, or the plan of a row, into an output of so many bytes gives this answer
 Holds (writesDay d bytes a) = dayWrites dayLimits (yard d) bytes ≡ a
 Holds (writesPlan d row bytes a) = planWrites dayLimits (yard d) row bytes ≡ a
+-- writing the plan of a row into an output of as many bytes leaves these
+Holds (leavesPlan d row bytes) = planLeaves dayLimits (yard d) row (replicate (length bytes) 0) ≡ bytes
 
 -- ---- texts
 
@@ -115,7 +118,7 @@ fullFile =
 -- ---- the table
 
 unfoldable pub table : List Line
-unfolding file withMoves withHead withTrains fullFile dayOf openDay paperDay numbered inGroups
+unfolding file withMoves withHead withTrains fullFile dayOf openDay paperDay numbered inGroups oneWay
 table =
     -- P1
     accepted (ascii "trains tracks slots revisit split\n4 2 2 1 1\ntrain first last\n1 1 2\n2 1 2\n3 1 2\n4 1 2\nto from boxes\n1 4 1\n3 1 3\n3 4 5\n4 2 6\n4 3 1\n") (paperDay 1 1 1)
@@ -273,8 +276,9 @@ table =
     ∷ refused (withMoves "group train\n1 3\n1 1\n") 15 11
     ∷ refused (withMoves "group train\n2 1\n1 2\n") 15 11
     ∷ refused (withMoves "group train\n1 1\n1 2\n2 1\n") 15 12
-    -- what is printed: P1's plan file as 01 has it with order 6's direct moves, the two lines of 9 for P9, the two lines of a text that is no day file
+    -- what is printed: P1's plan file as 01 has it with order 6's direct moves, that of a day of five trains, the two lines of 9 for P9, the two lines of a text that is no day file
     ∷ prints (withHead "4 2 2 1 1\n") (ascii "revisits splits direct cost\n1 7 9 8\ntrain slot\n1 2\n2 1\n3 2\n4 1\n")
+    ∷ prints (file "5 3 2 1 1\n" "1 1 1\n2 1 1\n3 1 1\n4 2 2\n5 2 2\n" "1 2 3\n1 5 4\n2 1 5\n4 1 2\n5 4 16\n") (ascii "revisits splits direct cost\n1 6 24 7\ntrain slot\n1 1\n2 1\n3 1\n4 2\n5 2\n")
     ∷ prints (file "3 2 2 1 1\n" "1 1 1\n2 1 1\n3 1 1\n" "") (ascii "refusal first last trains\n9 1 1 3\n")
     ∷ prints (withTrains "1 01 2\n2 1 2\n3 1 2\n4 1 2\n") (ascii "refusal line\n2 4\n")
     -- wagon sets printed: P1 with trains 1 and 2 in one, a set of more trains than tracks, a row of a train not listed
@@ -290,7 +294,10 @@ table =
     ∷ writesDay (paperDay 65536 1 1) 0 (refuses 8 (0 ∷ []))
     ∷ writesDay (inGroups (1 ∷ 0 ∷ 1 ∷ []) (paperDay 1 1 1)) 149 (gives 149)
     ∷ writesDay (inGroups (1 ∷ 0 ∷ 1 ∷ []) (paperDay 1 1 1)) 148 (refuses 10 (0 ∷ []))
-    -- the same of a plan; 8 before 11 before 12 before 13 before 17 before 10
+    -- the bytes of a plan, of four trains and of eleven
+    ∷ leavesPlan (paperDay 1 1 1) (2 ∷ 1 ∷ 2 ∷ 1 ∷ []) (ascii "revisits splits direct cost\n1 7 9 8\ntrain slot\n1 2\n2 1\n3 2\n4 1\n")
+    ∷ leavesPlan (openDay 11 11 8 (oneWay 11)) (7 ∷ 7 ∷ 7 ∷ 5 ∷ 5 ∷ 5 ∷ 6 ∷ 6 ∷ 6 ∷ 8 ∷ 8 ∷ []) (ascii "revisits splits direct cost\n6 4167 673 4173\ntrain slot\n1 7\n2 7\n3 7\n4 5\n5 5\n6 5\n7 6\n8 6\n9 6\n10 8\n11 8\n")
+    -- and their count; 8 before 11 before 12 before 13 before 17 before 10
     ∷ writesPlan (paperDay 1 1 1) (2 ∷ 1 ∷ 2 ∷ 1 ∷ []) 63 (gives 63)
     ∷ writesPlan (paperDay 1 1 1) (2 ∷ 1 ∷ 2 ∷ 1 ∷ []) 62 (refuses 10 (0 ∷ []))
     ∷ writesPlan (paperDay 65536 1 1) [] 0 (refuses 8 (0 ∷ []))
@@ -320,10 +327,11 @@ passes (prints text bytes) = sameList (answerText dayLimits text) bytes
 passes (answers text size a) = sameAnswer eqb (answerWrites dayLimits text size) a
 passes (writesDay d bytes a) = sameAnswer eqb (dayWrites dayLimits (yard d) bytes) a
 passes (writesPlan d row bytes a) = sameAnswer eqb (planWrites dayLimits (yard d) row bytes) a
+passes (leavesPlan d row bytes) = sameList (planLeaves dayLimits (yard d) row (replicate (length bytes) 0)) bytes
 
 -- the one computation
 computed : T (allPass passes table)
-unfolding allPass passes sameYard isGiven sameAnswer sameList table readDay readFile readTrains readMoves headNames trainNames moveNames groupNames movesEnd readGroups position stored Reading.dayOf byte names field row more value within headRanges trainRanges moveRanges groupRanges lowest writes dayText fileOf fileText moveRows memberRows groupRows listed joined rowText rowsText digitsWithin planLines valueNames slotNames sound shaped positionSound groupSound trainSound numberBefore unused receiverSound pairSound each Fold.some sum count lateSupplier revisiting revisits splitBoxes splitsTo splits directBoxes directTo direct weighed inTime inWindow load roomy strays overfull answerText refusalText lineNames intervalNames cost inSlots fitting grouped apart kept parted allowed mask slotMask lower slotTotal bySets precedes bound exceeds overbooked allRows byKey pick bestOf overbookedFrom overbookedFirst overbookedLast firstOverbooked
+unfolding allPass passes sameYard isGiven sameAnswer sameList table readDay readFile readTrains readMoves headNames trainNames moveNames groupNames movesEnd readGroups position stored Reading.dayOf byte names field row more value within headRanges trainRanges moveRanges groupRanges lowest writes leaves dayText fileOf fileText moveRows memberRows groupRows listed joined rowText rowsText digitsWithin planLines valueNames slotNames sound shaped positionSound groupSound trainSound numberBefore unused receiverSound pairSound each Fold.some sum count lateSupplier revisiting revisits splitBoxes splitsTo splits directBoxes directTo direct weighed inTime inWindow load roomy strays overfull answerText refusalText lineNames intervalNames cost inSlots fitting grouped apart kept parted allowed mask slotMask lower slotTotal bySets precedes bound exceeds overbooked allRows byKey pick bestOf overbookedFrom overbookedFirst overbookedLast firstOverbooked
 computed = tt
 
 -- the bound of `accepted-size` (the day file's Size.antt) is reached
@@ -387,6 +395,7 @@ line-holds (prints text bytes) t = same-list (answerText dayLimits text) bytes t
 line-holds (answers text size a) t = same-answer eqb eqb→eq (answerWrites dayLimits text size) a t
 line-holds (writesDay d bytes a) t = same-answer eqb eqb→eq (dayWrites dayLimits (yard d) bytes) a t
 line-holds (writesPlan d row bytes a) t = same-answer eqb eqb→eq (planWrites dayLimits (yard d) row bytes) a t
+line-holds (leavesPlan d row bytes) t = same-list (planLeaves dayLimits (yard d) row (replicate (length bytes) 0)) bytes t
 
 pub every-line : (l : Line) → List·Memᴰ l table → Holds l
 every-line = all-hold passes Holds line-holds table computed

@@ -158,3 +158,16 @@ module _ (y : Yard) (slots : ℕ) (row : List ℕ) (staged : Slotted (y .trains)
 
   pub shares-direct : outcome y row .direct ≡ sum slots λ j. shareIn y row j .direct
   shares-direct = direct-by-slot
+
+-- ---- one slot of any row: what it contributes is counted over its own trains
+
+module _ (y : Yard) (row : List ℕ) (j : ℕ) where
+  pub share-cost : shareIn y row j .cost
+      ≡ y .revisit * (sum (y .trains) λ i. cond (eqb (slotOf row i) (suc j)) (bit (revisiting (y .trains) (received y) row i)) 0)
+      + y .split * (sum (y .trains) λ i. cond (eqb (slotOf row i) (suc j)) (splitsTo (y .trains) (received y) row i) 0)
+  share-cost =
+      ap₂ (λ late outside. y .revisit * late + y .split * outside) (late-in-slot (y .trains) (received y) row (suc j))
+      (split-in-slot (y .trains) (received y) row (suc j))
+
+  pub share-direct : shareIn y row j .direct ≡ sum (y .trains) λ i. cond (eqb (slotOf row i) (suc j)) (directTo (y .trains) (received y) row i) 0
+  share-direct = direct-in-slot (y .trains) (received y) row (suc j)

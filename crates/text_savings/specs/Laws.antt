@@ -2,8 +2,8 @@
 -- Assumes nothing.
 use mathlib.Core.Path.{_≡_, refl, ap, _∙_}
 use mathlib.Core.Bool.{true, false}
-use mathlib.Core.List.{List, _++_}
-use Prim.Native.Nat.{ℕ}
+use mathlib.Core.List.{List, _∷_, _++_}
+use Prim.Native.Nat.{ℕ, _≤_}
 use lib.Dec.{leb}
 use lib.IntN.{ℤ, pos}
 use lib.ListN.{length, drop}
@@ -17,7 +17,7 @@ use Rattle.comparing.specs.Comparing.{Comparison, comparisonOf, comparisonOrZer
 use Rattle.baselines.specs.Baselines.{compared}
 use Rattle.comparing.specs.declared.Baseline.{Baseline}
 use Rattle.telling.specs.Telling.{numberCount, numbersTold, numbersAfter}
-use Rattle.telling.specs.Laws.{Told, none-told}
+use Rattle.telling.specs.Laws.{Told, none-told, numbers-given}
 use Rattle.text_savings.specs.TextSavings.{compareText, outcomes}
 
 -- ---- what is told of a comparison
@@ -41,6 +41,15 @@ told-baseline b beside e t = record {
 
 pub told-refused : (r : Refusal) {before after : List ℕ} {said : ℕ} → Told before (refusal r) said after → ToldSaving before (refusal r) said after (pos 0)
 told-refused r t = record { says = t .says; numbers = t .numbers; saving = refl }
+
+-- ---- the header's words: a procedure's four numbers, or what the refusal carries
+
+pub saving-numbers : (before : List ℕ) → 4 ≤ length before → (c : Comparison)
+    → numbersAfter (outcomes (gives c)) before ≡ c .outcome .revisits ∷ c .outcome .splits ∷ c .outcome .direct ∷ c .outcome .cost ∷ drop 4 before
+saving-numbers before room c = numbers-given before room (c .outcome)
+
+pub saving-refused : (k : ℕ) (carries : List ℕ) → outcomes (refuses k carries) ≡ refuses k carries
+saving-refused k carries = refl
 
 -- ---- each answer for a text
 

@@ -39,7 +39,7 @@ use Rattle.planning.specs.Answers.{areas-suffice, planned-only, from-best, plan
 use Rattle.comparing.specs.Comparing.{Comparison}
 use Rattle.baselines.specs.Baselines.{compared}
 use Rattle.baselines.specs.Savings.{compared-only, compared-boxes}
-use Rattle.telling.specs.Telling.{numberCount, dayFor, forDay}
+use Rattle.telling.specs.Telling.{dayFor, forDay}
 use Rattle.telling.specs.Laws.{no-room, with-room}
 use Rattle.text_plan.specs.TextPlan.{planFor}
 use Rattle.text_plan.specs.Means.{plans-best}
@@ -72,15 +72,15 @@ module _ (text : List ℕ) where
       go (refuses k carries) h = of-reading k (h .0)
 
   -- the days that are read are sound, so a call on them never answers 8
-  for-sound : {X : Type 0} (own : ℕ → Type 0) (size : ℕ) (f : Yard → Answer X) → numberCount ≤ size → ((y : Yard) → T (sound dayLimits y) → Only (λ k carries. own k) (f y))
+  for-sound : {X : Type 0} (own : ℕ → Type 0) (size : ℕ) (f : Yard → Answer X) → 4 ≤ size → ((y : Yard) → T (sound dayLimits y) → Only (λ k carries. own k) (f y))
       → OfReading (code (forDay dayLimits text size f)) ⊎ own (code (forDay dayLimits text size f))
   for-sound own size f h g =
       returned own (forDay dayLimits text size f)
-      (subst (λ (a : Answer Yard). Only (Or own) (onGiven a f)) (sym (with-room dayLimits text size (le-leb numberCount size h) refl))
+      (subst (λ (a : Answer Yard). Only (Or own) (onGiven a f)) (sym (with-room dayLimits text size (le-leb 4 size h) refl))
       (only-given (Or own) (readDay dayLimits text) f (only-wider Lined (Or own) (readDay dayLimits text) (λ k carries q. inl (of-reading k (q .0))) (read-lined dayLimits text))
       λ y e. only-wider (λ k carries. own k) (Or own) (f y) (λ k carries q. inr q) (g y (read-sound dayLimits text y e))))
 
-  module _ (size : ℕ) (room : numberCount ≤ size) where
+  module _ (size : ℕ) (room : 4 ≤ size) where
     pub value-returns : (row : List ℕ) → let k = code (valueText dayLimits text row size) in ((k ≤ 7) ⊎ (k ≡ 15)) ⊎ (((11 ≤ k) × (k ≤ 13)) ⊎ (k ≡ 17))
     unfolding valueText
     value-returns row = for-sound (λ k. ((11 ≤ k) × (k ≤ 13)) ⊎ (k ≡ 17)) size (λ y. valued dayLimits y row) room λ y s. valued-only dayLimits y row s
@@ -105,9 +105,9 @@ module _ (text : List ℕ) where
   pub check-none : (y : Yard) → readDay dayLimits text ≡ gives y → (code (readDay dayLimits text) ≡ 0) × (line (readDay dayLimits text) ≡ 0)
   check-none y e = (ap code e, ap line e)
 
-  module _ (y : Yard) (reads : readDay dayLimits text ≡ gives y) (size : ℕ) (room : numberCount ≤ size) where
+  module _ (y : Yard) (reads : readDay dayLimits text ≡ gives y) (size : ℕ) (room : 4 ≤ size) where
     day : dayFor dayLimits text size ≡ gives y
-    day = with-room dayLimits text size (le-leb numberCount size room) reads
+    day = with-room dayLimits text size (le-leb 4 size room) reads
 
     pub value-allowed : (row : List ℕ) → T (allowed y row) → valueText dayLimits text row size ≡ gives (outcome y row)
     unfolding valueText
@@ -153,9 +153,9 @@ module _ (text : List ℕ) where
         back : (o : Outcome) → planned dayLimits y costArea choiceArea (length row) ≡ gives o → SomeRow y
         back o e = let b = from-best dayLimits y costArea choiceArea (length row) o e in (b .row, b .best .isAllowed)
 
-  module _ (size : ℕ) (short : size < numberCount) where
+  module _ (size : ℕ) (short : size < 4) where
     none : {X : Type 0} (f : Yard → Answer X) → code (forDay dayLimits text size f) ≡ 10
-    none f = rw (no-room dayLimits text size (lt-leb numberCount size short))
+    none f = rw (no-room dayLimits text size (lt-leb 4 size short))
 
     pub no-numbers : (row : List ℕ) (procedure : Yard → List ℕ) (costs choices bytes : ℕ)
         → (code (valueText dayLimits text row size) ≡ 10) × ((code (compareText procedure dayLimits text size) ≡ 10) × (code (planFor dayLimits text costs choices bytes size) ≡ 10))
