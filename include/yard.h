@@ -43,8 +43,9 @@ extern "C" {
 
 uint64_t yard_version(void);
 
-/* Bytes of output that suffice for every answer; numbers of a row: revisits, split moves, direct moves, cost; trains that a day has at most;
- * words of the two work areas that suffice for every day. */
+/* Bytes of output that suffice for every answer; numbers of a row: revisits, split moves (boxes between trains of different slots), direct
+ * moves (boxes between trains of the same slot), cost; trains that a day has at most; words of the two work areas that suffice for every
+ * day. */
 #define YARD_ANSWER_BYTES 161
 #define YARD_NUMBERS 4
 #define YARD_MOST_TRAINS 12

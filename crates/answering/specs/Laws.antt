@@ -18,13 +18,14 @@ use Rattle.day.specs.Sound.{dayLimits, sound}
 use Rattle.day.specs.SoundLaws.{sound-is}
 use Rattle.day.specs.declared.Limits.{Limits}
 use Rattle.day.specs.declared.Refusal.{Refusal}
+use Rattle.counting.specs.Counting.{figuresOf}
 use Rattle.lines.specs.Lines.{rowText, rowsText}
 use Rattle.dayfile.specs.Reading.{readDay}
 use Rattle.planning.specs.Planning.{noRow, bestAnswer, placed}
 use Rattle.planning.specs.Answers.{none-answer, none-gives}
 use Rattle.refusal_text.specs.RefusalText.{refusalText}
 use Rattle.refusal_text.specs.Laws.{refusalBytes}
-use Rattle.planfile.specs.PlanText.{valueNames, slotNames, valueRow, slotRow, planLines, planText}
+use Rattle.planfile.specs.PlanText.{valueNames, slotNames, slotRow, planLines, planText}
 use Rattle.planfile.specs.Size.{planBytes, plan-size, plan-most}
 use Rattle.answering.specs.Answering.{replyBy, dayReply, reply, answerText}
 
@@ -39,7 +40,7 @@ fits-plan h = (h .0, omega (arith, h .1))
 lines-front : (n : ℕ) (numbers : List ℕ) (o : Outcome) (best beyond : List ℕ) → length best ≡ n → planLines n numbers o (best ++ beyond) ≡ planLines n numbers o best
 unfolding planLines
 lines-front n numbers o best beyond long =
-    ap (λ rows. valueNames ++ rowText (valueRow o) ++ slotNames ++ rowsText rows)
+    ap (λ rows. valueNames ++ rowText (figuresOf o) ++ slotNames ++ rowsText rows)
     (listed-ext n (slotRow numbers (best ++ beyond)) (slotRow numbers best)
     (λ i h. ap (λ x. getD numbers i 0 ∷ x ∷ []) (List·getD-append best beyond 0 i (omega arith))))
 

@@ -1,7 +1,7 @@
 -- The code's four numbers of a row as the model's outcome.
 -- Assumes nothing.
 use mathlib.Core.Path.{_≡_, refl}
-use mathlib.Core.List.{List}
+use mathlib.Core.List.{List, [], _∷_}
 use Prim.Native.Nat.{ℕ}
 use Rattle.fold.specs.Fold.{sum}
 use Rattle.model.specs.Model.{Outcome, slotOf, outsideBoxes, splitBoxes, splitsTo}
@@ -10,6 +10,10 @@ use Rattle.counting.specs.declared.Value.{Value}
 -- an outcome of its numbers, in the order of the plan file's names line
 abbrev pub figures : ℕ → ℕ → ℕ → ℕ → Outcome
 figures revisits splits direct cost = record { revisits = revisits; splits = splits; direct = direct; cost = cost }
+
+-- and its numbers in that order: the row of the plan file, and what a caller is told
+abbrev pub figuresOf : Outcome → List ℕ
+figuresOf o = o .revisits ∷ o .splits ∷ o .direct ∷ o .cost ∷ []
 
 abbrev pub outcomeOf : Value → Outcome
 outcomeOf v = figures (v .revisits .0) (v .splits .0) (v .direct .0) (v .cost)

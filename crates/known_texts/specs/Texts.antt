@@ -276,7 +276,8 @@ table =
     ∷ refused (withMoves "group train\n1 3\n1 1\n") 15 11
     ∷ refused (withMoves "group train\n2 1\n1 2\n") 15 11
     ∷ refused (withMoves "group train\n1 1\n1 2\n2 1\n") 15 12
-    -- what is printed: P1's plan file as 01 has it with order 6's direct moves, that of a day of five trains, the two lines of 9 for P9, the two lines of a text that is no day file
+    -- what is printed: P1's plan file as 01 has it with order 6's direct moves, that of a day of five trains, the two lines of 9 for P9, the
+    -- two lines of a text that is no day file
     ∷ prints (withHead "4 2 2 1 1\n") (ascii "revisits splits direct cost\n1 7 9 8\ntrain slot\n1 2\n2 1\n3 2\n4 1\n")
     ∷ prints (file "5 3 2 1 1\n" "1 1 1\n2 1 1\n3 1 1\n4 2 2\n5 2 2\n" "1 2 3\n1 5 4\n2 1 5\n4 1 2\n5 4 16\n") (ascii "revisits splits direct cost\n1 6 24 7\ntrain slot\n1 1\n2 1\n3 1\n4 2\n5 2\n")
     ∷ prints (file "3 2 2 1 1\n" "1 1 1\n2 1 1\n3 1 1\n" "") (ascii "refusal first last trains\n9 1 1 3\n")

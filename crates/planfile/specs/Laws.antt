@@ -10,10 +10,11 @@ use Rattle.model.specs.Model.{Yard, Outcome}
 use Rattle.day.specs.Answer.{refuses}
 use Rattle.day.specs.Sound.{sound}
 use Rattle.day.specs.declared.Limits.{Limits}
+use Rattle.counting.specs.Counting.{figuresOf}
 use Rattle.lines.specs.Lines.{rowText}
 use Rattle.output.specs.Output.{writes}
 use Rattle.output.specs.Laws.{rows-listed}
-use Rattle.planfile.specs.PlanText.{valueNames, slotNames, valueRow, slotRow, planLines, planWrites}
+use Rattle.planfile.specs.PlanText.{valueNames, slotNames, slotRow, planLines, planWrites}
 
 -- ---- 8 is given whatever the row and the output are
 
@@ -24,7 +25,7 @@ plan-unsound l y row size s = rw s
 -- ---- the two sections, as the code puts them
 
 abbrev pub valueLines : Outcome → List ℕ
-valueLines o = valueNames ++ rowText (valueRow o)
+valueLines o = valueNames ++ rowText (figuresOf o)
 
 abbrev pub slotLine : List ℕ → List ℕ → ℕ → List ℕ
 slotLine numbers row i = rowText (slotRow numbers row i)

@@ -7,6 +7,7 @@ use Rattle.fold.specs.Listed.{listed}
 use Rattle.model.specs.Model.{Yard, Outcome, outcome, slotOf}
 use Rattle.day.specs.Answer.{Answer}
 use Rattle.day.specs.declared.Limits.{Limits}
+use Rattle.counting.specs.Counting.{figuresOf}
 use Rattle.valuing.specs.Valuing.{rowChecks}
 use Rattle.lines.specs.Lines.{ascii, rowText, rowsText}
 use Rattle.output.specs.Output.{writes, leaves}
@@ -20,15 +21,12 @@ valueNames = ascii "revisits splits direct cost\n"
 unfoldable pub slotNames : List ℕ
 slotNames = ascii "train slot\n"
 
-abbrev pub valueRow : Outcome → List ℕ
-valueRow o = o .revisits ∷ o .splits ∷ o .direct ∷ o .cost ∷ []
-
 abbrev pub slotRow : List ℕ → List ℕ → ℕ → List ℕ
 slotRow numbers row i = getD numbers i 0 ∷ slotOf row i ∷ []
 
 -- a row of n trains with these numbers, whose outcome is o
 unfoldable pub planLines : ℕ → List ℕ → Outcome → List ℕ → List ℕ
-planLines n numbers o row = valueNames ++ rowText (valueRow o) ++ slotNames ++ rowsText (listed n (slotRow numbers row))
+planLines n numbers o row = valueNames ++ rowText (figuresOf o) ++ slotNames ++ rowsText (listed n (slotRow numbers row))
 
 abbrev pub planText : Yard → List ℕ → List ℕ
 planText y row = planLines (y .trains) (y .numbers) (outcome y row) row

@@ -10,13 +10,13 @@ use lib.ListN.{length, getD, replicate, length-append}
 use Rattle.fold.specs.Fold.{sum, count, some, each, each-at}
 use Rattle.fold.specs.Sums.{sum-ext}
 use Rattle.fold.specs.Listed.{listed}
-use Rattle.counting.specs.Counting.{figures}
+use Rattle.counting.specs.Counting.{figures, figuresOf}
 use Rattle.model.specs.Model.{Yard, Outcome, slotOf, outcome, lateSupplier, revisiting, revisits, splitBoxes, splitsTo, splits, directBoxes, directTo, direct, weighed, inSlots, inTime, inWindow, load, roomy, fitting, grouped, apart, kept, allowed}
 use Rattle.day.specs.Sound.{dayLimits, Range, range, within, headRanges, trainRanges, numberBefore, trainSound, unused, positionSound, groupSound, pairSound, receiverSound, shaped, sound}
 use Rattle.day.specs.SoundLaws.{within-is}
 use Rattle.lines.specs.Lines.{rowText, rowsText}
 use Rattle.lines.specs.RowSize.{inRow, digits-size, row-bytes}
-use Rattle.planfile.specs.PlanText.{valueNames, slotNames, valueRow, slotRow, planLines, planText}
+use Rattle.planfile.specs.PlanText.{valueNames, slotNames, slotRow, planLines, planText}
 use Rattle.planfile.specs.Size.{planBytes, rows-length}
 
 -- 12 trains with the greatest numbers, 255 boxes between any two, the greatest weights; `packed` is the one row that their windows leave:
@@ -59,12 +59,12 @@ dearest-outcome = refl
 
 -- the row of values, the twelve rows, the file
 
-values-size : length (rowText (valueRow most)) ≡ 26
+values-size : length (rowText (figuresOf most)) ≡ 26
 unfolding inRow
 values-size =
     omega (
       arith,
-      row-bytes (valueRow most),
+      row-bytes (figuresOf most),
       digits-size 1 (most .revisits) (omega arith) (omega arith),
       digits-size 4 (most .splits) (omega arith) (omega arith),
       digits-size 4 (most .direct) (omega arith) (omega arith),

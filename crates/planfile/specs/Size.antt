@@ -17,9 +17,10 @@ use Rattle.day.specs.Sound.{dayLimits, Range, range}
 use Rattle.day.specs.SoundLaws.{Sound, Within}
 use Rattle.day.specs.Most.{mostBoxes, mostCost, sound-revisits, sound-splits, sound-direct, sound-cost}
 use Rattle.day.specs.declared.Limits.{Limits}
+use Rattle.counting.specs.Counting.{figuresOf}
 use Rattle.lines.specs.Lines.{rowText, rowsText}
 use Rattle.lines.specs.RowSize.{mostInRow, digits-size, row-size}
-use Rattle.planfile.specs.PlanText.{valueNames, slotNames, valueRow, slotRow, planLines, planText}
+use Rattle.planfile.specs.PlanText.{valueNames, slotNames, slotRow, planLines, planText}
 
 -- ---- the greatest size
 
@@ -54,10 +55,10 @@ rows-size ranges n f h =
 -- ---- the plan file of an allowed row
 
 module _ (l : Limits) (y : Yard) (row : List ℕ) (s : Sound l y) (a : T (allowed y row)) where
-  values-size : length (rowText (valueRow (outcome y row))) ≤ mostInRow (valueRanges l)
+  values-size : length (rowText (figuresOf (outcome y row))) ≤ mostInRow (valueRanges l)
   unfolding valueRanges
   values-size =
-      row-size (valueRanges l) (valueRow (outcome y row)) refl
+      row-size (valueRanges l) (figuresOf (outcome y row)) refl
       ((zero-le, sound-revisits l y row s), ((zero-le, sound-splits l y row s), ((zero-le, sound-direct l y row s), ((zero-le, sound-cost l y row s), tt))))
 
   slots-size : length (rowsText (listed (y .trains) (slotRow (y .numbers) row))) ≤ l .trains * mostInRow (slotRanges l)

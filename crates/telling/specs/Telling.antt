@@ -8,6 +8,7 @@ use lib.ListN.{length, getD, drop}
 use Rattle.model.specs.Model.{Yard, Outcome}
 use Rattle.day.specs.Answer.{Answer, gives, refuses, onGiven, must, checked}
 use Rattle.day.specs.declared.Limits.{Limits}
+use Rattle.counting.specs.Counting.{figuresOf}
 use Rattle.dayfile.specs.Reading.{readDay}
 
 -- how many numbers are told: as many as a row has, revisits, split moves, direct moves and cost
@@ -27,7 +28,7 @@ forDay l text size f = onGiven (dayFor l text size) f
 
 -- those of the row, in the order of the plan file's names line, or what the refusal carries and then zeros
 abbrev pub numbersTold : Answer Outcome → List ℕ
-numbersTold (gives o) = o .revisits ∷ o .splits ∷ o .direct ∷ o .cost ∷ []
+numbersTold (gives o) = figuresOf o
 numbersTold (refuses k carries) = getD carries 0 0 ∷ getD carries 1 0 ∷ getD carries 2 0 ∷ getD carries 3 0 ∷ []
 
 -- where there is room for them they are the first numbers, and those beyond stay

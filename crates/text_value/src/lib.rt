@@ -49,8 +49,8 @@ fn value_day(day: Day, row: &[u8], numbers: &mut [u64]) -> u64
     }
 }
 
-// Values a row of slots on the day of a text: 0 with revisits, split moves, direct moves and cost in the first four numbers; or the number of the
-// refusal with what it carries there, zeros behind it. 10 where there is no room for four numbers, and then none changes.
+// Values a row of slots on the day of a text: 0 with revisits, split moves, direct moves and cost in the first four numbers; or the number
+// of the refusal with what it carries there, zeros behind it. 10 where there is no room for four numbers, and then none changes.
 pub fn value_text(text: &[u8], row: &[u8], numbers: &mut [u64]) -> u64
     ensures { λ r. ⌜ r ≡ code (valueText dayLimits (now (text .entry)) (now (row .entry)) (length (now (numbers .entry)))) ⌝ }
     ensures { λ _. ⌜ now (numbers .exit) ≡ numbersAfter (valueText dayLimits (now (text .entry)) (now (row .entry)) (length (now (numbers .entry)))) (now (numbers .entry)) ⌝ }

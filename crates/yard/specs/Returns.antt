@@ -132,7 +132,7 @@ module _ (text : List ℕ) where
     plan-boxes costs choices bytes o e = planned-boxes dayLimits y costs choices bytes o (rw day at e)
 
     pub compare-boxes : (procedure : Yard → List ℕ) (c : Comparison) → compareText procedure dayLimits text size ≡ gives c → AllMoved y (c .outcome)
-    compare-boxes procedure c e = compared-boxes dayLimits y 4096 32768 (procedure y) c (sym (compare-is procedure) ∙ e)
+    compare-boxes procedure c e = compared-boxes dayLimits y costArea choiceArea (procedure y) c (sym (compare-is procedure) ∙ e)
 
     pub plan-exactly : (row : List ℕ) → 12 ≤ length row → ((o : Outcome) × (planFor dayLimits text costArea choiceArea (length row) size ≡ gives o)) ↔ SomeRow y
     unfolding planFor

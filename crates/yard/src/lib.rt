@@ -95,8 +95,8 @@ pub extern "C" fn yard_check(text: &[u8], at: &mut u64) -> u64
     text_value::check_text(text, at)
 }
 
-// Values a row of slots on the day of a text: 0 with revisits, split moves, direct moves and cost in the first four numbers; or the number of the
-// refusal with what it carries there, zeros behind it. 10 where there is no room for four numbers, and then none changes.
+// Values a row of slots on the day of a text: 0 with revisits, split moves, direct moves and cost in the first four numbers; or the number
+// of the refusal with what it carries there, zeros behind it. 10 where there is no room for four numbers, and then none changes.
 #[no_mangle]
 pub extern "C" fn yard_value(text: &[u8], row: &[u8], numbers: &mut [u64]) -> u64
     ensures { λ r. ⌜ r ≡ code (valueText dayLimits (now (text .entry)) (now (row .entry)) (length (now (numbers .entry)))) ⌝ }

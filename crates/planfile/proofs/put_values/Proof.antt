@@ -7,8 +7,8 @@ use lib.ListN.{length, length-append}
 use Rattle.decimal.specs.PlaceLaws.{put-text}
 use Rattle.lines.specs.Lines.{rowText}
 use Rattle.model.specs.Model.{Outcome}
-use Rattle.counting.specs.Counting.{figures, outcomeOf, same-figures}
-use Rattle.planfile.specs.PlanText.{valueNames, valueRow}
+use Rattle.counting.specs.Counting.{figures, figuresOf, outcomeOf, same-figures}
+use Rattle.planfile.specs.PlanText.{valueNames}
 use borrow.Author.Needs.{needs}
 use Rattle.planfile.proofs.put_values.Statement.{statement}
 use Rattle.planfile.proofs.put_values.Tie as tie
@@ -27,7 +27,7 @@ put-bytes-requires : tie.Need-put-bytes-requires
 unfolding valueNames
 put-bytes-requires c κs =
     let s = start c .args in
-    omega (arith, length-append valueNames (rowText (valueRow (outcomeOf (s .value)))))
+    omega (arith, length-append valueNames (rowText (figuresOf (outcomeOf (s .value)))))
 
 count-requires : tie.Need-count-requires
 count-requires c κs = search needs
@@ -41,10 +41,10 @@ count-requires-3 c κs = search needs
 -- the row that is written: the three counts, opened, and the cost
 opened : (c : tie.After-count3)
     → let v = start (past-names c .before) .args .value in
-    rowText (c .before .before .count .result ∷ c .before .count2 .result ∷ c .count3 .result ∷ v .cost ∷ []) ≡ rowText (valueRow (outcomeOf v))
+    rowText (c .before .before .count .result ∷ c .before .count2 .result ∷ c .count3 .result ∷ v .cost ∷ []) ≡ rowText (figuresOf (outcomeOf v))
 opened c =
     let cost = start (past-names c .before) .args .value .cost in
-    ap (λ (o : Outcome). rowText (valueRow o))
+    ap (λ (o : Outcome). rowText (figuresOf o))
     (same-figures {a = figures (c .before .before .count .result) (c .before .count2 .result) (c .count3 .result) cost} (c .before .before .count .ensures) (c .before .count2 .ensures) (c .count3 .ensures) refl)
 
 put-four-requires : tie.Need-put-four-requires
@@ -52,7 +52,7 @@ unfolding valueNames
 put-four-requires c κs =
     let b = past-names c in
     let s = start (b .before) .args in
-    omega (arith, length-append valueNames (rowText (valueRow (outcomeOf (s .value)))), b .put-bytes .ensures .next, ap length (opened c))
+    omega (arith, length-append valueNames (rowText (figuresOf (outcomeOf (s .value)))), b .put-bytes .ensures .next, ap length (opened c))
 
 same-length : tie.Need-same-length
 same-length c = search needs
@@ -63,7 +63,7 @@ returns c =
     let r = c .before .before in
     let b = past-names (r .before) in
     let s = start (b .before) .args in
-    put-text {b = rowText (valueRow (outcomeOf (s .value)))} (b .put-bytes .ensures) (rw (← opened (r .before)) (r .put-four .ensures))
+    put-text {b = rowText (figuresOf (outcomeOf (s .value)))} (b .put-bytes .ensures) (rw (← opened (r .before)) (r .put-four .ensures))
 
 pub put-values-spec : {M : Type 1} → statement M
 put-values-spec =
