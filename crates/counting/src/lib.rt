@@ -149,8 +149,8 @@ fn direct_to(boxes: &[u8], width: usize, row: &[u8], n: usize, i: usize) -> u64
     ensures { λ r. ⌜ (r ≡ directTo n (cell width (now (boxes .entry))) (now (row .entry)) i) × (r ≤ 16320) ⌝ }
 {
     let mut total: u64 = 0;
-    for j in 0..n {
-        total += direct_boxes(boxes, width, row, i, j);
+    for other in 0..n {
+        total += direct_boxes(boxes, width, row, i, other);
     }
     total
 }

@@ -27,7 +27,7 @@ use Rattle.feasibility.specs.RowOrNone.{none-spacious}
 use Rattle.planning.specs.Planning.{costWords, choiceWords, noRow, bestAnswer, NoRowRefusal, planned, begins, placed, rowAfter, Stays}
 use Rattle.planning.specs.Answers.{none-answer, planned-begun, row-begun, refuses-only}
 use Rattle.planning.specs.Demand.{memory-suffices, memory-after}
-use Rattle.telling.specs.Telling.{dayFor}
+use Rattle.telling.specs.Telling.{numberCount, dayFor}
 use Rattle.telling.specs.Laws.{with-room}
 use Rattle.text_plan.specs.TextPlan.{planFor, rowFor, openFor, slotsIn, slotsFor}
 
@@ -127,8 +127,8 @@ module _ (l : Limits) (text cost choice row : List ℕ) (size : ℕ) (costAfter 
   text-memory = go (dayFor l text size) refl
     where
       -- a day for a caller with room is the one read
-      same : (a : Answer Yard) (y z : Yard) → a ≡ gives y → checked (must (leb 4 size) 10 (0 ∷ []) ∷ []) a ≡ gives z → y ≡ z
-      same a y z e f = gives-same (sym e ∙ checked-gives (must (leb 4 size) 10 (0 ∷ []) ∷ []) a z f .1)
+      same : (a : Answer Yard) (y z : Yard) → a ≡ gives y → checked (must (leb numberCount size) 10 (0 ∷ []) ∷ []) a ≡ gives z → y ≡ z
+      same a y z e f = gives-same (sym e ∙ checked-gives (must (leb numberCount size) 10 (0 ∷ []) ∷ []) a z f .1)
 
       untold : (y : Yard) (a : Answer Outcome) (k : ℕ) (carries : List ℕ) → a ≡ refuses k carries → slotsIn y a ≡ 0
       untold y a k carries e = ap (slotsIn y) e

@@ -8,13 +8,13 @@ use Rattle.counting.proofs.direct_boxes.Statement.{statement}
 use Rattle.counting.proofs.direct_boxes.Tie as tie
 
 shared-slice-read-if1 : tie.Need-shared-slice-read-if1
-shared-slice-read-if1 c = c .before .before .before .pre .to
+shared-slice-read-if1 c = search needs
 
 shared-slice-read-if1-2 : tie.Need-shared-slice-read-if1-2
-shared-slice-read-if1-2 c = c .before .before .before .before .pre .from
+shared-slice-read-if1-2 c = search needs
 
 cell-at-requires : tie.Need-cell-at-requires
-cell-at-requires c κs = c .before .before .before .before .before .pre .table
+cell-at-requires c κs = search needs
 
 wide8-requires : tie.Need-wide8-requires
 wide8-requires c κs = search needs

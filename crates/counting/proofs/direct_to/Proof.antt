@@ -12,10 +12,10 @@ use Rattle.counting.proofs.direct_to.Statement.{statement}
 use Rattle.counting.proofs.direct_to.Tie as tie
 
 abbrev Inv-loop : tie.InvT-loop
-Inv-loop boxes width row n i total₀ j₀ total j = (j ≤ n) × (total ≡ sum j (directBoxes (cell width boxes) row i)) × (total ≤ 255 * j)
+Inv-loop boxes width row n i total₀ other₀ total other = (other ≤ n) × (total ≡ sum other (directBoxes (cell width boxes) row i)) × (total ≤ 255 * other)
 
 abbrev μ-loop : tie.MeasureT-loop
-μ-loop boxes width row n i total₀ j₀ total j = n - j
+μ-loop boxes width row n i total₀ other₀ total other = n - other
 
 loop-holds : tie.Need-loop-holds Inv-loop μ-loop
 loop-holds c = (search needs, sym (sum-none _), search needs)
@@ -26,8 +26,8 @@ direct-boxes-requires c κs = given-pair (c .before .before .before .before .pre
 add-total : tie.Need-add-total Inv-loop μ-loop
 add-total c = omega arith
 
-add-j : tie.Need-add-j Inv-loop μ-loop
-add-j c = search needs
+add-other : tie.Need-add-other Inv-loop μ-loop
+add-other c = search needs
 
 loop-less : tie.Need-loop-less Inv-loop μ-loop
 loop-less c = search needs
@@ -35,7 +35,7 @@ loop-less c = search needs
 loop-again : tie.Need-loop-again Inv-loop μ-loop
 loop-again c =
     let a = c .before .before .before .before .before .args in
-    let next = sum-next (c .before .before .loop .j) (directBoxes (cell (a .width) (a .boxes .now)) (a .row .now) (a .i)) in
+    let next = sum-next (c .before .before .loop .other) (directBoxes (cell (a .width) (a .boxes .now)) (a .row .now) (a .i)) in
     omega arith
 
 returns : tie.Need-returns Inv-loop μ-loop
@@ -43,7 +43,7 @@ unfolding directTo
 returns c =
     let a = c .before .before .before .before .args in
     let l = c .before .loop in
-    let end = at-end (λ k. sum k (directBoxes (cell (a .width) (a .boxes .now)) (a .row .now) (a .i))) (l .j) (a .n) (l .inv .0) (c .loop-test .left) in
+    let end = at-end (λ k. sum k (directBoxes (cell (a .width) (a .boxes .now)) (a .row .now) (a .i))) (l .other) (a .n) (l .inv .0) (c .loop-test .left) in
     (l .inv .1 ∙ end, omega arith)
 
 pub direct-to-spec : {M : Type 1} → statement M
@@ -55,7 +55,7 @@ direct-to-spec =
     loop-holds
     direct-boxes-requires
     add-total
-    add-j
+    add-other
     loop-less
     loop-again
     returns)
