@@ -1,11 +1,11 @@
 -- What a call answers, in the numbers of documents 01 and 02: what it gives, or the number of a refusal with the values that it carries.
 -- Every enum of an answer is mapped to this, and the promises speak of it.
 -- Assumes nothing.
-use mathlib.Core.Bool.{Bool, cond}
+use mathlib.Core.Bool.{Bool, true, cond, _&&_}
 use mathlib.Core.List.{List, [], _∷_}
 use Prim.Native.Nat.{ℕ}
 use Rattle.day.specs.declared.Refusal.{Refusal}
-use Rattle.day.specs.declared.Refusal.the-variants.{NamesLine, RowForm, OutOfLimits, NumberOrder, WindowOrder, UnknownTrain, PairOrder, Unsound, Overbooked, TooShort, RowLength, OutsideWindow, SlotOverfull, WithoutSlot, GroupRow, NoAllowedRow, GroupParted}
+use Rattle.day.specs.declared.Refusal.the-variants.{NamesLine, RowForm, OutOfLimits, NumberOrder, WindowOrder, UnknownTrain, PairOrder, Unsound, Overbooked, TooShort, RowLength, OutsideWindow, SlotOverfull, WithoutSlot, GroupRow, NoAllowedRow, GroupParted, TrainUnavailable, TrainNotAddable, NoOpenSlot}
 use Rattle.day.specs.declared.Verdict.{Verdict}
 use Rattle.day.specs.declared.Verdict.the-variants.{Accepted, Refused}
 
@@ -13,7 +13,7 @@ pub data Answer (X : Type 0) : Type 0 where
   gives : X → Answer X
   refuses : ℕ → List ℕ → Answer X
 
--- the number of a refusal: 1 to 13 in 01's table, 14 to 17 in document 02
+-- the number of a refusal: 1 to 13 in 01's table, 14 to 20 in document 02
 abbrev pub number : Refusal → ℕ
 number (NamesLine line) = 1
 number (RowForm line) = 2
@@ -32,6 +32,9 @@ number (WithoutSlot position) = 14
 number (GroupRow line) = 15
 number NoAllowedRow = 16
 number (GroupParted group) = 17
+number TrainUnavailable = 18
+number TrainNotAddable = 19
+number NoOpenSlot = 20
 
 -- what it carries
 abbrev pub carried : Refusal → List ℕ
@@ -52,6 +55,9 @@ carried (WithoutSlot position) = position ∷ []
 carried (GroupRow line) = line ∷ []
 carried NoAllowedRow = 0 ∷ []
 carried (GroupParted group) = group ∷ []
+carried TrainUnavailable = 0 ∷ []
+carried TrainNotAddable = 0 ∷ []
+carried NoOpenSlot = 0 ∷ []
 
 abbrev pub refusal : {X : Type 0} → Refusal → Answer X
 refusal r = refuses (number r) (carried r)
@@ -81,3 +87,8 @@ pub data Check : Type 0 where
 abbrev pub checked : {X : Type 0} → List Check → Answer X → Answer X
 checked [] answer = answer
 checked (must holds k carries ∷ checks) answer = cond holds (checked checks answer) (refuses k carries)
+
+-- whether none of them fails
+abbrev pub holding : List Check → Bool
+holding [] = true
+holding (must holds k carries ∷ checks) = holds && holding checks

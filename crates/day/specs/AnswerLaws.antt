@@ -8,12 +8,21 @@ use mathlib.Core.List.{List, [], _∷_}
 use Prim.Native.Nat.{ℕ}
 use native.Mathlib.Omega.{arith}
 use lib.Dec.{T}
-use Rattle.fold.specs.Test.{is-true}
-use Rattle.day.specs.Answer.{Answer, gives, refuses, onGiven, Check, must, checked}
+use Rattle.fold.specs.Test.{is-true, both, both-of}
+use Rattle.day.specs.Answer.{Answer, gives, refuses, onGiven, Check, must, checked, holding}
 
 abbrev pub AllHold : List Check → Type 0
 AllHold [] = Unit
 AllHold (must holds k carries ∷ checks) = T holds × AllHold checks
+
+-- none of the checks fails
+pub holding-all : (checks : List Check) → T (holding checks) → AllHold checks
+holding-all [] t = tt
+holding-all (must holds k carries ∷ checks) t = let (a, b) = both-of holds (holding checks) t in (a, holding-all checks b)
+
+pub all-holding : (checks : List Check) → AllHold checks → T (holding checks)
+all-holding [] h = tt
+all-holding (must holds k carries ∷ checks) h = both holds (holding checks) (h .0) (all-holding checks (h .1))
 
 module _ {X : Type 0} where
   pub gives-same : {a b : X} → gives a ≡ gives b → a ≡ b
@@ -38,6 +47,12 @@ pub checked-refuses : {X Y : Type 0} (checks : List Check) (x : X) (b : Answer Y
 checked-refuses [] x b {k} {carries} e = absurd (let z : _≡_ {A = ℕ} 0 1 = cc in omega arith)
 checked-refuses (must true m c ∷ checks) x b e = checked-refuses checks x b e
 checked-refuses (must false m c ∷ checks) x b e = cc
+
+-- where a check refuses, not all of them hold; where something is given, they do
+pub refused-holding : {X : Type 0} (checks : List Check) (x : X) {k : ℕ} {carries : List ℕ} → checked checks (gives x) ≡ refuses k carries → holding checks ≡ false
+refused-holding [] x {k} {carries} e = absurd (let z : _≡_ {A = ℕ} 0 1 = cc in omega arith)
+refused-holding (must true m c ∷ checks) x e = refused-holding checks x e
+refused-holding (must false m c ∷ checks) x e = refl
 
 -- where something follows from an answer, something was given before
 pub given-then : {X Y W : Type 0} (a : Answer X) (f : X → Answer Y) {y : Y} → onGiven a f ≡ gives y → ((x : X) → a ≡ gives x → f x ≡ gives y → W) → W

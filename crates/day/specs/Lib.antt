@@ -3,3 +3,4 @@ pub mod AnswerLaws
 pub mod Sound
 pub mod SoundLaws
 pub mod Most
+pub mod SoundDay

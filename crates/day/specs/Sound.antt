@@ -5,7 +5,7 @@ use mathlib.Core.Bool.{Bool, true, false, not, cond, _&&_}
 use mathlib.Core.List.{List, [], _∷_}
 use Prim.Native.Nat.{ℕ, zero, suc, _*_}
 use lib.Dec.{ltb, leb, eqb}
-use lib.ListN.{length, getD}
+use lib.ListN.{length, getD, replicate}
 use Rattle.fold.specs.Fold.{each}
 use Rattle.model.specs.Model.{Yard, cell, groupOf}
 use Rattle.day.specs.declared.Day.{Day}
@@ -38,6 +38,22 @@ dayFrom h numbers first last groups width boxes = record {
 
 abbrev pub yard : Day → Yard
 yard d = dayFrom (headOf d) (d .numbers) (d .first) (d .last) (d .groups) 12 (d .boxes)
+
+-- a record of zeros, which a call that is refused gives beside the refusal
+abbrev pub zeroDay : Limits → Yard
+zeroDay l = record {
+  trains = 0;
+  tracks = 0;
+  slots = 0;
+  revisit = 0;
+  split = 0;
+  numbers = replicate (l .trains) 0;
+  first = replicate (l .trains) 0;
+  last = replicate (l .trains) 0;
+  groups = replicate (l .trains) 0;
+  width = l .trains;
+  boxes = replicate (l .trains * l .trains) 0;
+}
 
 -- ---- the fields of a row and their ranges, 01's table of the day file
 

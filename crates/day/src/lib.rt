@@ -7,7 +7,7 @@ ghost use Prim.Native.Nat.{_≤_, _<_};
 ghost use lib.ListN.{length};
 ghost use Rattle.model.specs.Model.{cell, inTime};
 ghost use Rattle.model.specs.Cells.{InTable};
-ghost use Rattle.day.specs.Sound.{dayLimits, headOf, range, between, within, headRanges, trainRanges, moveRanges, groupRanges};
+ghost use Rattle.day.specs.Sound.{dayLimits, headOf, yard, zeroDay, range, between, within, headRanges, trainRanges, moveRanges, groupRanges};
 
 // A day. Positions are counted from 0; A(i, j), the boxes that train i receives from train j, stands at i * 12 + j of `boxes`.
 // A train in no group has group 0. Unused positions hold 0.
@@ -44,9 +44,9 @@ pub struct Limits {
     pub groups: u8,
 }
 
-// The refusals 1 to 13 of document 01 and 14 to 17 of document 02, in their order, with what each carries: a line of the text, counted
-// from 1; the first and the last slot of an interval and the trains bound inside; a position or a slot, counted from 1 (`WithoutSlot` of 0:
-// each train has a slot, and the row is still not allowed); a group.
+// The refusals 1 to 13 of document 01 and 14 to 20 of document 02, in their order, with what each carries: a line of the text, counted
+// from 1, or 0 where no text is read; the first and the last slot of an interval and the trains bound inside; a position or a slot,
+// counted from 1 (`WithoutSlot` of 0: each train has a slot, and the row is still not allowed); a group.
 pub enum Refusal {
     NamesLine(usize),
     RowForm(usize),
@@ -65,6 +65,9 @@ pub enum Refusal {
     GroupRow(usize),
     NoAllowedRow,
     GroupParted(u8),
+    TrainUnavailable,
+    TrainNotAddable,
+    NoOpenSlot,
 }
 
 // What a call says beside the numbers or the day that it gives: accepted, or the refusal.
@@ -172,5 +175,23 @@ pub fn head_of(day: Day) -> Head
         slots: day.slots,
         revisit: day.revisit,
         split: day.split,
+    }
+}
+
+// A record of zeros.
+pub fn zero_day() -> Day
+    ensures { λ r. ⌜ yard r ≡ zeroDay dayLimits ⌝ }
+{
+    Day {
+        trains: 0,
+        tracks: 0,
+        slots: 0,
+        revisit: 0,
+        split: 0,
+        numbers: [0; 12],
+        first: [0; 12],
+        last: [0; 12],
+        groups: [0; 12],
+        boxes: [0; 144],
     }
 }

@@ -3,13 +3,13 @@
 -- Assumes nothing.
 use mathlib.Core.Path.{_≡_, ap, _∙_}
 use mathlib.Core.List.{List, [], _∷_}
-use Prim.Native.Nat.{ℕ, _*_, _≤_}
+use Prim.Native.Nat.{ℕ, _≤_}
 use native.Mathlib.Omega.{arith}
 use lib.Dec.{T}
-use lib.ListN.{length, take, replicate}
+use lib.ListN.{length, take}
 use Rattle.model.specs.Model.{Yard}
 use Rattle.day.specs.Answer.{Answer, gives, refuses, Check, must}
-use Rattle.day.specs.Sound.{sound}
+use Rattle.day.specs.Sound.{zeroDay, sound}
 use Rattle.day.specs.declared.Limits.{Limits}
 use Rattle.output.specs.Output.{writes, leaves}
 use Rattle.output.specs.Laws.{fits, Filled, filled}
@@ -18,21 +18,6 @@ use Rattle.dayfile.specs.Writing.{dayText, Short}
 use Rattle.dayfile.specs.RoundTrip.{write-read, read-write, read-sound}
 
 -- ---- reading: the day, or with a refusal a record of zeros
-
-abbrev pub zeroDay : Limits → Yard
-zeroDay l = record {
-  trains = 0;
-  tracks = 0;
-  slots = 0;
-  revisit = 0;
-  split = 0;
-  numbers = replicate (l .trains) 0;
-  first = replicate (l .trains) 0;
-  last = replicate (l .trains) 0;
-  groups = replicate (l .trains) 0;
-  width = l .trains;
-  boxes = replicate (l .trains * l .trains) 0;
-}
 
 abbrev pub dayOrZero : Limits → Answer Yard → Yard
 dayOrZero l (gives y) = y

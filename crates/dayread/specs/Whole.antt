@@ -9,7 +9,7 @@ use Rattle.fold.specs.Listed.{take-front}
 use Rattle.model.specs.Model.{Yard}
 use Rattle.day.specs.Answer.{Answer, gives, refuses, onGiven, refusal, judged}
 use Rattle.day.specs.AnswerLaws.{given-then}
-use Rattle.day.specs.Sound.{dayFrom, headRanges}
+use Rattle.day.specs.Sound.{dayFrom, headRanges, zeroDay}
 use Rattle.day.specs.SoundLaws.{within-is}
 use Rattle.day.specs.declared.Limits.{Limits}
 use Rattle.day.specs.declared.Refusal.{Refusal}
@@ -17,7 +17,7 @@ use Rattle.day.specs.declared.Verdict.{Verdict}
 use Rattle.day.specs.declared.Verdict.the-variants.{Accepted, Refused}
 use Rattle.dayfile.specs.Reading.{field1, field2, field3, headChecks, headNames, readNames, readRow, headSection, trainSection, moveSection, groupSection, File, readFile, padded, storedMoves, storedGroups, dayOf, readDay}
 use Rattle.dayfile.specs.LineLaws.{row-line-read}
-use Rattle.dayfile.specs.Calls.{zeroDay, dayOrZero}
+use Rattle.dayfile.specs.Calls.{dayOrZero}
 use Rattle.day_rows.specs.Steps.{rowRest, RowTo}
 use Rattle.day_trains.specs.Trains.{TrainsRead}
 use Rattle.day_rows.specs.declared.Step.{Step}

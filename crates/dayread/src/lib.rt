@@ -9,7 +9,7 @@ ghost use lib.ListN.{length, take, drop, replicate};
 ghost use Rattle.day.specs.Answer.{judged};
 ghost use Rattle.day.specs.Sound.{dayLimits, yard};
 ghost use Rattle.dayfile.specs.Reading.{readDay};
-ghost use Rattle.dayfile.specs.Calls.{zeroDay, dayOrZero};
+ghost use Rattle.dayfile.specs.Calls.{dayOrZero};
 ghost use Rattle.dayread.specs.Whole.{RestTo, FileTo};
 use day::Day;
 use day::Head;
@@ -24,23 +24,6 @@ use lines::Line;
 pub struct Reading {
     pub verdict: Verdict,
     pub day: Day,
-}
-
-fn zero_day() -> Day
-    ensures { λ r. ⌜ yard r ≡ zeroDay dayLimits ⌝ }
-{
-    Day {
-        trains: 0,
-        tracks: 0,
-        slots: 0,
-        revisit: 0,
-        split: 0,
-        numbers: [0; 12],
-        first: [0; 12],
-        last: [0; 12],
-        groups: [0; 12],
-        boxes: [0; 144],
-    }
 }
 
 // The head of an accepted text, or its refusal 1 to 7 or 15.
@@ -151,7 +134,7 @@ pub fn read_day(text: &[u8]) -> Reading
         },
         FileRead::Refused(refusal) => Reading {
             verdict: Verdict::Refused(refusal),
-            day: zero_day(),
+            day: day::zero_day(),
         },
     }
 }

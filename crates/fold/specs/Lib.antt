@@ -4,3 +4,4 @@ pub mod Sums
 pub mod Counting
 pub mod Listed
 pub mod Table
+pub mod Column

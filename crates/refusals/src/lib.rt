@@ -64,5 +64,8 @@ pub fn in_numbers(refusal: Refusal) -> Numbered
         Refusal::GroupRow(line) => carrying(15, line),
         Refusal::NoAllowedRow => carrying(16, 0),
         Refusal::GroupParted(group) => carrying(17, group as usize),
+        Refusal::TrainUnavailable => carrying(18, 0),
+        Refusal::TrainNotAddable => carrying(19, 0),
+        Refusal::NoOpenSlot => carrying(20, 0),
     }
 }

@@ -112,6 +112,24 @@ cast-carrying-2 c = search needs
 carrying-requires-16 : tie.Need-carrying-requires-16
 carrying-requires-16 c κs = search needs
 
+enum-told-5 : tie.Need-enum-told-5
+enum-told-5 c = search needs
+
+carrying-requires-17 : tie.Need-carrying-requires-17
+carrying-requires-17 c κs = search needs
+
+enum-told-6 : tie.Need-enum-told-6
+enum-told-6 c = search needs
+
+carrying-requires-18 : tie.Need-carrying-requires-18
+carrying-requires-18 c κs = search needs
+
+enum-told-7 : tie.Need-enum-told-7
+enum-told-7 c = search needs
+
+carrying-requires-19 : tie.Need-carrying-requires-19
+carrying-requires-19 c κs = search needs
+
 returns : tie.Need-returns
 returns c = rw (c .before .before .refusal .given .1) (c .carrying .ensures)
 
@@ -163,6 +181,15 @@ returns-16 c = rw (c .before .enum-told4 .given .1) (c .carrying15 .ensures)
 returns-17 : tie.Need-returns-17
 returns-17 c = rw (c .before .before .refusal13 .given .1) (c .carrying16 .ensures)
 
+returns-18 : tie.Need-returns-18
+returns-18 c = rw (c .before .enum-told5 .given .1) (c .carrying17 .ensures)
+
+returns-19 : tie.Need-returns-19
+returns-19 c = rw (c .before .enum-told6 .given .1) (c .carrying18 .ensures)
+
+returns-20 : tie.Need-returns-20
+returns-20 c = rw (c .before .enum-told7 .given .1) (c .carrying19 .ensures)
+
 pub in-numbers-spec : {M : Type 1} → statement M
 in-numbers-spec =
     tie.close
@@ -203,6 +230,12 @@ in-numbers-spec =
     enum-known-refusal-13
     cast-carrying-2
     carrying-requires-16
+    enum-told-5
+    carrying-requires-17
+    enum-told-6
+    carrying-requires-18
+    enum-told-7
+    carrying-requires-19
     returns
     returns-2
     returns-3
@@ -219,4 +252,7 @@ in-numbers-spec =
     returns-14
     returns-15
     returns-16
-    returns-17)
+    returns-17
+    returns-18
+    returns-19
+    returns-20)

@@ -1,0 +1,2 @@
+pub mod Replans
+pub mod Laws

@@ -1,0 +1,10 @@
+pub mod Rolling
+pub mod Places
+pub mod Cut
+pub mod Edits
+pub mod Changes
+pub mod States
+pub mod Follows
+pub mod Answers
+pub mod Replanned
+pub mod Undone
