@@ -1,9 +1,10 @@
-/* The yard slot planner for programs in C: plan a day, check a day file, value a row of slots, see what planning saves.
+/* The yard slot planner for programs in C: plan a day, check a day file, value a row of slots, see what planning saves, keep a plan while
+ * the day changes.
  *
  * The functions are proved (crates/yard): for every text, every row and all lent memory they return and leave exactly what stands here.
  * They keep no state, allocate nothing, and may be called from several threads at once. Those that plan (yard_answer, yard_plan,
  * yard_first_come_first_served, yard_myopic) need up to 160 KB of stack: the examples of embedding/ run in 160 KB and not in 140.
- * yard_plan_in_workspace needs up to 64 KB: the same days are planned in 56 KB and not in 48.
+ * yard_plan_in_workspace and the functions of a moving day need up to 64 KB: the same days are planned in 56 KB and not in 48.
  *
  * Build the library with the Rattle kit and link it:
  *     rt staticlib yard                                   (writes target/staticlib/libyard.a)
@@ -23,6 +24,9 @@
  *     15  a group's row names an unlisted train or one of an earlier row, or its pair isn't after the pair before
  *     16  no stretch is overbooked, and still no row is allowed, since the groups can't be kept
  *     17  a row parts a group
+ * and of a moving day:
+ *      8  a state that can't be gone on with        18  a train that is not listed, or can't be cancelled
+ *     19  a train that can't be added               20  no slot is open that could be closed
  * Where yard_answer prints a refusal (1 to 7, 9, 15, 16) it returns 0.
  */
 #ifndef YARD_H
@@ -37,8 +41,8 @@ extern "C" {
 
 /* The version of this interface. It changes when a size below or the meaning of a number does. yard_version() returns that of the library
  * that is linked: compare the two where header and library may come from different places.
- * Since version 3 a row has four numbers, direct moves before the cost, and an answer up to 161 bytes. In version 2 it had three, the cost
- * in third place, and 148 bytes sufficed. */
+ * Functions that are added do not change it. Since version 3 a row has four numbers, direct moves before the cost, and an answer up to 161
+ * bytes. In version 2 it had three, the cost in third place, and 148 bytes sufficed. */
 #define YARD_VERSION 3
 
 uint64_t yard_version(void);
@@ -51,6 +55,9 @@ uint64_t yard_version(void);
 #define YARD_MOST_TRAINS 12
 #define YARD_COST_WORDS 4096
 #define YARD_CHOICE_WORDS 32768
+
+/* Bytes that suffice for every day file. */
+#define YARD_DAY_BYTES 2437
 
 /* Plans the day of a text: what the program yard-plan prints for it, byte for byte. That is the plan file; or, for a text that is no day
  * file, the two lines of refusals 1 to 7 and 15; or, for a day without a plan, the two lines of refusal 9 or 16.
@@ -133,6 +140,77 @@ uint64_t yard_value(const uint8_t *text, size_t text_length, const uint8_t *row,
  * else 14. A day with 14 has a plan. */
 uint64_t yard_first_come_first_served(const uint8_t *text, size_t text_length, uint64_t *numbers, size_t numbers_length, int64_t *saving);
 uint64_t yard_myopic(const uint8_t *text, size_t text_length, uint64_t *numbers, size_t numbers_length, int64_t *saving);
+
+/* ---- a day that keeps moving
+ *
+ * A day is begun with a plan; then slots are closed one after the other, and between that trains are cancelled, trains are added, and
+ * boxes change. Its state is three things that a program can keep, print and read again the next morning:
+ *
+ *   - the day file of the day as it is now (text, text_length);
+ *   - the number of closed slots (closed);
+ *   - the plan (row, row_length): the slot of each train, in the order of the day file, one byte each.
+ *
+ * A train is served when its planned slot is closed. yard_begin gives the first plan, with no slot closed. yard_close closes the first open
+ * slot: the trains planned in it are served, and the plan stays. yard_cancel, yard_add and yard_set_boxes change the day and plan it anew:
+ * served trains keep their slots, and all others get open ones. The new plan is the best of all allowed rows that do so, in the order
+ * that yard_answer has.
+ *
+ * The state that is given does not change. The new one is written beside it:
+ *
+ * day, day_length          room for the new day file, at least YARD_DAY_BYTES. Afterwards its first numbers[2] bytes hold it.
+ * next, next_length        room for the new plan, at least YARD_MOST_TRAINS bytes. Afterwards its first numbers[1] bytes hold it.
+ * numbers, numbers_length  room for at least four numbers. Afterwards the first four hold the number of closed slots, the number of trains,
+ *                          the bytes of the day file, and 0; after a refusal what it carries, then zeros: 1 to 7 and 15 of the text
+ *                          the line, 9 the first and last slot of the overbooked stretch and the number of trains bound inside; every
+ *                          other refusal four zeros. Numbers beyond stay as they were.
+ * cost, choice             the two work areas, at least YARD_COST_WORDS and YARD_CHOICE_WORDS words, whatever the day. Where planning has
+ *                          begun (after 0, 9 and 16) the first YARD_COST_WORDS and YARD_CHOICE_WORDS words may hold anything; words
+ *                          beyond, and after any other refusal all, stay as they were.
+ *
+ * Bytes of day and next beyond those stay as they were; after a refusal all of them do, so that the state given is still the state.
+ *
+ * Each function returns 0, or the first refusal of these:
+ *     10  numbers_length is below 4 (then no number has changed), day_length below YARD_DAY_BYTES, or next_length below YARD_MOST_TRAINS
+ *     1 to 7, 15  the text is no day file, with the line
+ *      8  more slots are closed than the day has, row_length isn't the number of trains, or the row is not allowed (slots outside their
+ *         windows, a slot with more trains than tracks, a parted group). The row need not be the best one.
+ *     10  a work area is too short
+ *      3  a train number outside 1..99999; the first or last slot of an added train outside 1..T; more than 255 boxes
+ *     18  a train that is not listed; to be cancelled, also one that is served or is the only one of the day
+ *     19  a train to be added that is listed already, or the day has YARD_MOST_TRAINS trains
+ *     20  no slot is open that could be closed
+ *      5  an added train whose first slot is above its last, or is closed
+ *      6  boxes from a train to itself
+ *      9, 16  no allowed row keeps the served trains and puts all others into open slots. For 9 a served train is bound to its slot, and the
+ *         windows of the others are cut to the open slots. Neither comes from yard_close; from yard_cancel and yard_set_boxes neither
+ *         comes, since the plan that was there, without the train that left, is still allowed. */
+
+/* Begins a moving day with the day of a text and every slot open: the plan goes into next. 10 (numbers, next), 1 to 7 or 15, 10 (areas),
+ * 9 or 16. The day file of the new state is the text itself, and no slot of it is closed. */
+uint64_t yard_begin(const uint8_t *text, size_t text_length, uint64_t *cost, size_t cost_length, uint16_t *choice, size_t choice_length,
+                    uint8_t *next, size_t next_length, uint64_t *numbers, size_t numbers_length);
+
+/* Closes the first open slot: the trains planned in it are served. The text and the row of the new state are those that were given.
+ * 10 (numbers), 1 to 7 or 15, 8, 20. */
+uint64_t yard_close(const uint8_t *text, size_t text_length, uint32_t closed, const uint8_t *row, size_t row_length, uint64_t *numbers,
+                    size_t numbers_length);
+
+/* Cancels a train, named by its number: it leaves with its boxes and its place in a group. 10, 1 to 7 or 15, 8, 10 (areas), 3, 18. */
+uint64_t yard_cancel(const uint8_t *text, size_t text_length, uint32_t closed, const uint8_t *row, size_t row_length, uint32_t train,
+                     uint64_t *cost, size_t cost_length, uint16_t *choice, size_t choice_length, uint8_t *day, size_t day_length,
+                     uint8_t *next, size_t next_length, uint64_t *numbers, size_t numbers_length);
+
+/* Adds a train with its window, in no group and without boxes: first and last slot count from 1. 10, 1 to 7 or 15, 8, 10 (areas), 3, 19, 5,
+ * 9 or 16. */
+uint64_t yard_add(const uint8_t *text, size_t text_length, uint32_t closed, const uint8_t *row, size_t row_length, uint32_t train,
+                  uint32_t first, uint32_t last, uint64_t *cost, size_t cost_length, uint16_t *choice, size_t choice_length, uint8_t *day,
+                  size_t day_length, uint8_t *next, size_t next_length, uint64_t *numbers, size_t numbers_length);
+
+/* Sets the number of boxes that train `to` receives from train `from`, 0 to 255; served trains too. 10, 1 to 7 or 15, 8, 10 (areas), 3, 18,
+ * 6. */
+uint64_t yard_set_boxes(const uint8_t *text, size_t text_length, uint32_t closed, const uint8_t *row, size_t row_length, uint32_t to,
+                        uint32_t from, uint32_t boxes, uint64_t *cost, size_t cost_length, uint16_t *choice, size_t choice_length,
+                        uint8_t *day, size_t day_length, uint8_t *next, size_t next_length, uint64_t *numbers, size_t numbers_length);
 
 #ifdef __cplusplus
 }

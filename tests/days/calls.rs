@@ -8,7 +8,7 @@ use crate::groups::{Tests, MOST_DIFFERENCES};
 use crate::header;
 use crate::known::KNOWN_VALUES;
 use crate::known_direct::{GreatDay, DIRECT_VALUES, GREAT_DAYS};
-use crate::model::{MOST_BYTES_PRINTED, MOST_SLOTS, MOST_TRAINS};
+use crate::model::{MOST_BYTES_ACCEPTED, MOST_BYTES_PRINTED, MOST_SLOTS, MOST_TRAINS};
 use crate::plan::broken;
 use crate::process::escaped;
 use crate::seen::{Seen, LEAST_SEEN};
@@ -126,6 +126,7 @@ fn check_header(tests: &mut Tests) {
     tests.check(version == wanted, &format!("yard_version() is {version}, in yard.h {wanted}"));
     let sizes = [
         ("YARD_ANSWER_BYTES", header::ANSWER_BYTES, MOST_BYTES_PRINTED),
+        ("YARD_DAY_BYTES", header::DAY_BYTES, MOST_BYTES_ACCEPTED),
         ("YARD_MOST_TRAINS", header::MOST_TRAINS, MOST_TRAINS),
         ("YARD_COST_WORDS", header::COST_WORDS, 1 << MOST_TRAINS),
         ("YARD_CHOICE_WORDS", header::CHOICE_WORDS, MOST_SLOTS << MOST_TRAINS),

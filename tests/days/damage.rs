@@ -270,7 +270,7 @@ const DAMAGES: [(&str, usize, Damage); 38] = [
 ];
 
 /// Damages the draft once and returns the damage's name.
-fn damage(random: &mut Random, draft: &mut Draft) -> &'static str {
+pub fn damage(random: &mut Random, draft: &mut Draft) -> &'static str {
     let shares = DAMAGES.iter().map(|(_, share, _)| share).sum();
     let mut ticket = random.below(shares);
     for (name, share, damage) in DAMAGES {

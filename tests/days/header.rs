@@ -38,6 +38,7 @@ const fn defined(define: &str) -> usize {
 
 pub const VERSION: usize = defined("\n#define YARD_VERSION ");
 pub const ANSWER_BYTES: usize = defined("\n#define YARD_ANSWER_BYTES ");
+pub const DAY_BYTES: usize = defined("\n#define YARD_DAY_BYTES ");
 pub const MOST_TRAINS: usize = defined("\n#define YARD_MOST_TRAINS ");
 pub const COST_WORDS: usize = defined("\n#define YARD_COST_WORDS ");
 pub const CHOICE_WORDS: usize = defined("\n#define YARD_CHOICE_WORDS ");

@@ -98,6 +98,11 @@ impl<W: Word> Lent<W> {
         self.now.as_mut_ptr().wrapping_add(AROUND)
     }
 
+    /// All words as before, for a stand-in that leaves them unwritten.
+    pub fn undo(&mut self) {
+        self.now.clone_from(&self.before);
+    }
+
     /// The first words are as written, and every other one is as before.
     pub fn holds(&self, written: &[W]) -> Result<(), String> {
         let mut wanted = self.before.clone();

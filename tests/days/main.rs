@@ -20,6 +20,18 @@
 //! direct has days drawn for them; known days, assignments and baselines tell each
 //! of a list of mistakes about them.
 //!
+//! A moving day (order 7 of 02) has an account of its own: account.rs keeps the day
+//! as it was edited, the closed slots and the served trains' slots by train number,
+//! account_plan.rs has its plan, or 9 and 16, by trying rows, on small days by the
+//! letter as well. Mode moving draws lists of calls, good and bad, of states that
+//! the functions wrote or that are made by hand (draw_moving.rs, draw_states.rs),
+//! makes each in marked memory and goes on with what was written (moving_walk.rs).
+//! moving_rules.rs has the checks in their order, moving_memory.rs the call and
+//! the comparison, moving_required.rs and moving_seen_account.rs what has to be
+//! seen, known_moving.rs lists worked out by hand. Mode self has a stand-in of the
+//! five functions (moving_standin.rs) make each of a list of mistakes
+//! (mismoving.rs), which the lists have to tell.
+//!
 //!     days expect < day.txt        prints what yard-plan has to print
 //!     days examples PROGRAM DIR    runs the stored days of DIR
 //!     days generated PROGRAM       runs known and drawn days and damaged texts
@@ -28,7 +40,10 @@
 //!                                  texts of generated: answering, planning
 //!                                  with and without areas lent, checking,
 //!                                  valuing, the version
-//!     days stack FUNCTION          calls one with little stack, for calls
+//!     days moving                  calls the five functions of a moving day in
+//!                                  lists, and on the texts of calls
+//!     days stack FUNCTION          calls one with little stack, for calls and
+//!                                  moving
 //!     days self                    checks this program on known days, and that
 //!                                  what is drawn tells mistakes from the papers
 //!
@@ -41,6 +56,8 @@
 //! Build: rt staticlib yard
 //!        rustc -O --edition 2021 -L target/staticlib -o target/tests/days tests/days/main.rs
 
+mod account;
+mod account_plan;
 mod baselines;
 mod boxes;
 mod call_answer;
@@ -56,7 +73,9 @@ mod day_file;
 mod draft;
 mod draw;
 mod draw_direct;
+mod draw_moving;
 mod draw_sets;
+mod draw_states;
 mod draw_ties;
 mod generated;
 mod groups;
@@ -64,12 +83,20 @@ mod header;
 mod heavy;
 mod known;
 mod known_direct;
+mod known_moving;
 mod known_sets;
 mod known_ties;
 mod lent;
 mod library;
 mod miscountings;
 mod misjudgings;
+mod mismoving;
+mod mismoving_checks;
+mod mismoving_edits;
+mod mismoving_limits;
+mod mismoving_numbers;
+mod mismoving_plans;
+mod mismoving_writing;
 mod misorderings;
 mod misplannings;
 mod misreaders;
@@ -78,6 +105,17 @@ mod misreports;
 mod missteps;
 mod misvaluings;
 mod model;
+mod moving;
+mod moving_call;
+mod moving_great;
+mod moving_memory;
+mod moving_required;
+mod moving_rules;
+mod moving_seen;
+mod moving_seen_account;
+mod moving_standin;
+mod moving_texts;
+mod moving_walk;
 mod plan;
 mod procedures;
 mod process;
@@ -88,6 +126,7 @@ mod self_baselines;
 mod self_calls;
 mod self_check;
 mod self_direct;
+mod self_moving;
 mod self_search;
 mod self_sets;
 mod self_ties;
@@ -105,6 +144,7 @@ use crate::calls::calls;
 use crate::generated::generated;
 use crate::groups::Tests;
 use crate::model::MOST_BYTES_READ;
+use crate::moving::moving;
 use crate::plan::expected;
 use crate::process::{compare_file, escaped};
 use crate::self_check::check_self;
@@ -189,11 +229,12 @@ fn main() -> ExitCode {
         ["generated", program] => generated(program),
         ["baselines"] => baselines(),
         ["calls"] => calls(),
+        ["moving"] => moving(),
         ["stack", name] => little_stack(name),
         ["self"] => check_self(),
         _ => {
             let modes =
-                "expect | examples PROGRAM DIR | generated PROGRAM | baselines | calls | self";
+                "expect | examples PROGRAM DIR | generated PROGRAM | baselines | calls | moving | self";
             eprintln!("usage: days {modes}");
             return ExitCode::from(2);
         }

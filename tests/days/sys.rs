@@ -3,7 +3,7 @@
 /// The prototypes without their result, `uint64_t`, as this module was written
 /// from them. Mode calls compares them with the header's, so that the header
 /// promises no function, and no order of arguments, that isn't called here.
-pub const PROTOTYPES: [&str; 8] = [
+pub const PROTOTYPES: [&str; 13] = [
     "yard_version(void)",
     "yard_answer(const uint8_t *text, size_t text_length, uint8_t *out, size_t out_length, \
      size_t *bytes)",
@@ -19,6 +19,25 @@ pub const PROTOTYPES: [&str; 8] = [
      size_t numbers_length, int64_t *saving)",
     "yard_myopic(const uint8_t *text, size_t text_length, uint64_t *numbers, \
      size_t numbers_length, int64_t *saving)",
+    "yard_begin(const uint8_t *text, size_t text_length, uint64_t *cost, size_t cost_length, \
+     uint16_t *choice, size_t choice_length, uint8_t *next, size_t next_length, \
+     uint64_t *numbers, size_t numbers_length)",
+    "yard_close(const uint8_t *text, size_t text_length, uint32_t closed, const uint8_t *row, \
+     size_t row_length, uint64_t *numbers, size_t numbers_length)",
+    "yard_cancel(const uint8_t *text, size_t text_length, uint32_t closed, const uint8_t *row, \
+     size_t row_length, uint32_t train, uint64_t *cost, size_t cost_length, uint16_t *choice, \
+     size_t choice_length, uint8_t *day, size_t day_length, uint8_t *next, size_t next_length, \
+     uint64_t *numbers, size_t numbers_length)",
+    "yard_add(const uint8_t *text, size_t text_length, uint32_t closed, const uint8_t *row, \
+     size_t row_length, uint32_t train, uint32_t first, uint32_t last, uint64_t *cost, \
+     size_t cost_length, uint16_t *choice, size_t choice_length, uint8_t *day, \
+     size_t day_length, uint8_t *next, size_t next_length, uint64_t *numbers, \
+     size_t numbers_length)",
+    "yard_set_boxes(const uint8_t *text, size_t text_length, uint32_t closed, \
+     const uint8_t *row, size_t row_length, uint32_t to, uint32_t from, uint32_t boxes, \
+     uint64_t *cost, size_t cost_length, uint16_t *choice, size_t choice_length, uint8_t *day, \
+     size_t day_length, uint8_t *next, size_t next_length, uint64_t *numbers, \
+     size_t numbers_length)",
 ];
 
 #[link(name = "yard", kind = "static")]
@@ -75,5 +94,84 @@ extern "C" {
         numbers: *mut u64,
         numbers_length: usize,
         saving: *mut i64,
+    ) -> u64;
+    pub fn yard_begin(
+        text: *const u8,
+        text_length: usize,
+        cost: *mut u64,
+        cost_length: usize,
+        choice: *mut u16,
+        choice_length: usize,
+        next: *mut u8,
+        next_length: usize,
+        numbers: *mut u64,
+        numbers_length: usize,
+    ) -> u64;
+    pub fn yard_close(
+        text: *const u8,
+        text_length: usize,
+        closed: u32,
+        row: *const u8,
+        row_length: usize,
+        numbers: *mut u64,
+        numbers_length: usize,
+    ) -> u64;
+    pub fn yard_cancel(
+        text: *const u8,
+        text_length: usize,
+        closed: u32,
+        row: *const u8,
+        row_length: usize,
+        train: u32,
+        cost: *mut u64,
+        cost_length: usize,
+        choice: *mut u16,
+        choice_length: usize,
+        day: *mut u8,
+        day_length: usize,
+        next: *mut u8,
+        next_length: usize,
+        numbers: *mut u64,
+        numbers_length: usize,
+    ) -> u64;
+    pub fn yard_add(
+        text: *const u8,
+        text_length: usize,
+        closed: u32,
+        row: *const u8,
+        row_length: usize,
+        train: u32,
+        first: u32,
+        last: u32,
+        cost: *mut u64,
+        cost_length: usize,
+        choice: *mut u16,
+        choice_length: usize,
+        day: *mut u8,
+        day_length: usize,
+        next: *mut u8,
+        next_length: usize,
+        numbers: *mut u64,
+        numbers_length: usize,
+    ) -> u64;
+    pub fn yard_set_boxes(
+        text: *const u8,
+        text_length: usize,
+        closed: u32,
+        row: *const u8,
+        row_length: usize,
+        to: u32,
+        from: u32,
+        boxes: u32,
+        cost: *mut u64,
+        cost_length: usize,
+        choice: *mut u16,
+        choice_length: usize,
+        day: *mut u8,
+        day_length: usize,
+        next: *mut u8,
+        next_length: usize,
+        numbers: *mut u64,
+        numbers_length: usize,
     ) -> u64;
 }

@@ -77,6 +77,11 @@ abbrev pub onGiven : {X Y : Type 0} → Answer X → (X → Answer Y) → Answer
 onGiven (gives x) f = f x
 onGiven (refuses k carries) f = refuses k carries
 
+-- what follows from what is given, or what was there before
+abbrev pub whereGiven : {X Y : Type 0} → Answer X → Y → (X → Y) → Y
+whereGiven (gives x) before f = f x
+whereGiven (refuses k carries) before f = before
+
 -- ---- checks, in the order in which a call makes them
 
 -- what must hold, and the refusal that is given where it does not

@@ -17,7 +17,7 @@ use day::Refusal;
 use output::Wrote;
 
 // Puts the text of a sound day at the front, and gives its length.
-fn put_day(day: Day, out: &mut [u8]) -> usize
+pub fn put_day(day: Day, out: &mut [u8]) -> usize
     requires { ⌜ T (sound dayLimits (yard day)) × (length (dayText dayLimits (yard day)) ≤ length (now out)) ⌝ }
     ensures { λ r. ⌜ Put (now (out .entry)) (now (out .exit)) 0 r (dayText dayLimits (yard day)) ⌝ }
 {

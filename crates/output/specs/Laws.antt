@@ -77,11 +77,11 @@ module _ {l m : List ℕ} {j : ℕ} {a : List ℕ} (p : Put l m 0 j a) where
   pub put-count : j ≡ length a
   put-count = p .next ∙ zero-add (length a)
 
-  front : length a ≤ length l → m ≡ a ++ drop (length a) l
-  front h = p .list ∙ sets-eq a l 0 (omega arith) ∙ ap (λ (n : ℕ). a ++ drop n l) (zero-add (length a))
+  pub put-list : length a ≤ length l → m ≡ a ++ drop (length a) l
+  put-list h = p .list ∙ sets-eq a l 0 (omega arith) ∙ ap (λ (n : ℕ). a ++ drop n l) (zero-add (length a))
 
   pub put-front : length a ≤ length l → take j m ≡ a
-  put-front h = rw (put-count, front h) (take-append-seam a (drop (length a) l))
+  put-front h = rw (put-count, put-list h) (take-append-seam a (drop (length a) l))
 
 -- ---- a whole text: the answer and what is left, by the checks and by whether it fits
 
@@ -93,7 +93,7 @@ module _ (text out : List ℕ) where
   pub says-whole : {after : List ℕ} {next : ℕ} → length text ≤ length out → Put out after 0 next text
       → (gives (length text) ≡ writes [] text (length out)) × (after ≡ leaves [] text out)
   unfolding writes leaves
-  says-whole h p = let e = le-leb (length text) (length out) h in (simp e, front p h ∙ simp e)
+  says-whole h p = let e = le-leb (length text) (length out) h in (simp e, put-list p h ∙ simp e)
 
   module _ (checks : List Check) where
     -- a check that fails, whatever would be given

@@ -3,14 +3,11 @@
 use mathlib.Core.Path.{_≡_, refl, sym, ap, _∙_, subst}
 use mathlib.Core.Bool.{Bool, true, false}
 use mathlib.Core.List.{List, [], _∷_}
-use Prim.Native.Nat.{ℕ, _≤_}
-use native.Mathlib.Omega.{arith}
-use lib.Dec.{T}
+use Prim.Native.Nat.{ℕ}
 use Rattle.fold.specs.Test.{of-true, is-true}
 use Rattle.day.specs.Answer.{Answer, gives, refuses, checked, holding}
 use Rattle.day.specs.AnswerLaws.{gives-same, checked-gives, checked-holds, checked-refuses, all-holding, refused-holding}
 use Rattle.day.specs.Sound.{dayLimits}
-use Rattle.day.specs.SoundLaws.{sound-is}
 use Rattle.rolling.specs.Rolling.{Account, State, accountOf, Change, edited, change, areasSuffice, changeChecks, stateSound, stateMade, stateAfter, stateBegins}
 use Rattle.rolling.specs.Cut.{Standing}
 use Rattle.rolling.specs.Changes.{change-standing}
@@ -54,10 +51,3 @@ module _ (s : State) (c : Change) (costs choices : ℕ) where
             rw (t, enough) (ap planOfAccount (sym (gives-same q)) ∙ sym (checked-holds checks (stateMade s (change c costs choices)) h)),
             rw (t, enough) (sym (is-true (holding checks) (all-holding checks h))),
           )
-
--- the trains of a sound state fit its arrays
-pub few-trains : (s : State) → T (stateSound dayLimits s) → (s .day .trains ≤ 12) × (s .closed ≤ 8)
-few-trains s t =
-    let d = sound-state dayLimits s t in
-    let m = sound-is dayLimits (s .day) (d .isSound) in
-    (m .trains .1, omega (arith, m .slots, d .closed))

@@ -34,8 +34,8 @@ fn account_of(state: RollingState) -> Account
     }
 }
 
-// Checks 8, 10, then the change's own; then plans.
-fn change(state: RollingState, change: Change, cost: &mut [u64], choice: &mut [u16]) -> Rolled
+// Any of the three changes: checks 8, 10, then its own; then plans.
+pub fn change(state: RollingState, change: Change, cost: &mut [u64], choice: &mut [u16]) -> Rolled
     ensures { λ r. ⌜ Done (stateIn state) (stateAfter dayLimits (stateIn state) (changing (changeIn change) (length (now (cost .entry))) (length (now (choice .entry))))) (stateBegins dayLimits (stateIn state) (changing (changeIn change) (length (now (cost .entry))) (length (now (choice .entry))))) (now (cost .entry)) (now (choice .entry)) r (now (cost .exit)) (now (choice .exit)) ⌝ }
 {
     if !rolling_state::is_state_sound(state) {

@@ -1,4 +1,4 @@
--- The parts of the tests of a state, and of the call that closes a slot, come to their definitions.
+-- The parts of the tests of a state, and of the call that closes a slot, come to their definitions; a sound state fits its arrays.
 -- Assumes nothing.
 use mathlib.Core.Path.{_≡_, refl, ap, sym, _∙_}
 use mathlib.Core.Bool.{Bool, true, false, _&&_}
@@ -6,18 +6,20 @@ use mathlib.Core.List.{List, [], _∷_}
 use Prim.Native.Nat.{ℕ, _+_, _≤_, _<_}
 use native.Mathlib.Numerals.{add-one}
 use native.Mathlib.Omega.{arith}
-use lib.Dec.{leb, eqb}
+use lib.Dec.{T, leb, eqb}
 use lib.ListN.{length}
 use borrow.Author.Tests.{eq-eqb, le-ltb, lt-ltb}
 use Rattle.fold.specs.Test.{is-true, is-false, of-true}
 use Rattle.fold.specs.Fold.{each}
 use Rattle.model.specs.Model.{Outcome, allowed}
 use Rattle.day.specs.Answer.{Answer, gives, refuses}
-use Rattle.day.specs.Sound.{sound}
+use Rattle.day.specs.Sound.{dayLimits, sound}
+use Rattle.day.specs.SoundLaws.{sound-is}
 use Rattle.day.specs.declared.Limits.{Limits}
 use Rattle.valuing.specs.Valuing.{valued}
 use Rattle.valuing.specs.Laws.{valued-allowed, allowed-valued}
 use Rattle.rolling.specs.Rolling.{State, planOf, close, stateSound, stateAfter, orBefore}
+use Rattle.rolling.specs.States.{sound-state}
 use Rattle.rolling_state.specs.States.{stateIn, answer, Says, zeroPast}
 use Rattle.rolling_state.specs.declared.Rolled.{Rolled}
 
@@ -67,3 +69,10 @@ module _ (l : Limits) (s : State) where
 -- what is left, by the answer itself
 pub left-by : {before : State} {a : Answer State} {r : Rolled} → Says before a r → stateIn (r .state) ≡ orBefore before (answer r)
 left-by {before} {a} {r} s = s .left ∙ ap (orBefore before) (sym (s .said))
+
+-- the trains of a sound state fit its arrays
+pub few-trains : (s : State) → T (stateSound dayLimits s) → (s .day .trains ≤ 12) × (s .closed ≤ 8)
+few-trains s t =
+    let d = sound-state dayLimits s t in
+    let m = sound-is dayLimits (s .day) (d .isSound) in
+    (m .trains .1, omega (arith, m .slots, d .closed))

@@ -21,7 +21,7 @@ pub fn is_room(size: usize) -> bool
 }
 
 // Stores four numbers at the front.
-fn store_four(numbers: &mut [u64], a: u64, b: u64, c: u64, d: u64)
+pub fn store_four(numbers: &mut [u64], a: u64, b: u64, c: u64, d: u64)
     requires { ⌜ numberCount ≤ length (now numbers) ⌝ }
     ensures { λ _. ⌜ now (numbers .exit) ≡ a ∷ b ∷ c ∷ d ∷ drop numberCount (now (numbers .entry)) ⌝ }
 {

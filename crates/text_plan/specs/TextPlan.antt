@@ -4,7 +4,7 @@
 use mathlib.Core.List.{List}
 use Prim.Native.Nat.{ℕ}
 use Rattle.model.specs.Model.{Yard, Outcome}
-use Rattle.day.specs.Answer.{Answer, gives, refuses}
+use Rattle.day.specs.Answer.{Answer, gives, refuses, whereGiven}
 use Rattle.day.specs.declared.Limits.{Limits}
 use Rattle.planning.specs.Planning.{planned, begins, rowAfter, openWords}
 use Rattle.telling.specs.Telling.{dayFor, forDay}
@@ -13,17 +13,12 @@ use Rattle.telling.specs.Telling.{dayFor, forDay}
 unfoldable pub planFor : Limits → List ℕ → ℕ → ℕ → ℕ → ℕ → Answer Outcome
 planFor l text costs choices bytes size = forDay l text size λ y. planned l y costs choices bytes
 
--- what follows from the day, or what was there before
-abbrev pub whereDay : {X : Type 0} → Answer Yard → X → (Yard → X) → X
-whereDay (gives y) before f = f y
-whereDay (refuses k carries) before f = before
-
 unfoldable pub rowFor : Limits → List ℕ → ℕ → ℕ → ℕ → List ℕ → List ℕ
-rowFor l text costs choices size row = whereDay (dayFor l text size) row λ y. rowAfter l y costs choices row
+rowFor l text costs choices size row = whereGiven (dayFor l text size) row λ y. rowAfter l y costs choices row
 
 -- the words of an area that may hold anything
 unfoldable pub openFor : (Yard → ℕ) → Limits → List ℕ → ℕ → ℕ → ℕ → ℕ → ℕ
-openFor words l text costs choices bytes size = whereDay (dayFor l text size) 0 λ y. openWords (begins l y costs choices bytes) (words y)
+openFor words l text costs choices bytes size = whereGiven (dayFor l text size) 0 λ y. openWords (begins l y costs choices bytes) (words y)
 
 -- the slots written: as many as the day has trains, or none
 abbrev pub slotsIn : Yard → Answer Outcome → ℕ
@@ -31,4 +26,4 @@ slotsIn y (gives o) = y .trains
 slotsIn y (refuses k carries) = 0
 
 unfoldable pub slotsFor : Limits → List ℕ → ℕ → ℕ → ℕ → ℕ → ℕ
-slotsFor l text costs choices bytes size = whereDay (dayFor l text size) 0 λ y. slotsIn y (planned l y costs choices bytes)
+slotsFor l text costs choices bytes size = whereGiven (dayFor l text size) 0 λ y. slotsIn y (planned l y costs choices bytes)

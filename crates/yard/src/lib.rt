@@ -11,12 +11,16 @@ ghost use Rattle.dayfile.specs.Reading.{readDay};
 ghost use Rattle.answering.specs.Answering.{answerWrites, answerLeaves};
 ghost use Rattle.procedures.specs.Procedures.{firstCome, myopic};
 ghost use Rattle.comparing.specs.Comparing.{comparisonOrZero};
-ghost use Rattle.planning.specs.Planning.{costWords, choiceWords, costArea, choiceArea, Stays};
+ghost use Rattle.planning.specs.Planning.{costWords, choiceWords, costArea, choiceArea, openWords, Stays};
 ghost use Rattle.telling.specs.Telling.{numbersAfter};
 ghost use Rattle.text_plan.specs.TextPlan.{planFor, rowFor, openFor, slotsFor};
 ghost use Rattle.text_value.specs.TextValue.{line, valueText};
 ghost use Rattle.text_savings.specs.TextSavings.{compareText, outcomes};
+ghost use Rattle.rolling.specs.Rolling.{cancel, add, setBoxes};
+ghost use Rattle.state_text.specs.StateText.{stateNumbers, dayAfter, planAfter};
+ghost use Rattle.text_rolling.specs.TextRolling.{beginFor, closeFor, changeFor, beginOpens, changeOpens};
 ghost use Rattle.yard.specs.Interface.{version, count};
+use account_edits::Change;
 use baselines::Procedure;
 use output::Wrote;
 
@@ -131,4 +135,146 @@ pub extern "C" fn yard_myopic(text: &[u8], numbers: &mut [u64], saving: &mut i64
     ensures { λ _. ⌜ now (saving .exit) ≡ comparisonOrZero (compareText myopic dayLimits (now (text .entry)) (length (now (numbers .entry)))) .saving ⌝ }
 {
     text_savings::compare_text(Procedure::Myopic, text, numbers, saving)
+}
+
+// ---- a day that keeps moving: a state is kept as a text, a number of closed slots and a row
+
+// Begins the day of a text with every slot open: 0 with the plan in the first bytes of `next` and the state's numbers (closed slots, trains,
+// bytes of the day file, 0); or the number of the refusal with what it carries there.
+#[no_mangle]
+pub extern "C" fn yard_begin(
+    text: &[u8],
+    cost: &mut [u64],
+    choice: &mut [u16],
+    next: &mut [u8],
+    numbers: &mut [u64],
+) -> u64
+    ensures { λ r. ⌜ r ≡ code (beginFor dayLimits (now (text .entry)) (length (now (cost .entry))) (length (now (choice .entry))) (length (now (next .entry))) (length (now (numbers .entry)))) ⌝ }
+    ensures { λ _. ⌜ now (numbers .exit) ≡ stateNumbers dayLimits (beginFor dayLimits (now (text .entry)) (length (now (cost .entry))) (length (now (choice .entry))) (length (now (next .entry))) (length (now (numbers .entry)))) (now (numbers .entry)) ⌝ }
+    ensures { λ _. ⌜ now (next .exit) ≡ planAfter (beginFor dayLimits (now (text .entry)) (length (now (cost .entry))) (length (now (choice .entry))) (length (now (next .entry))) (length (now (numbers .entry)))) (now (next .entry)) ⌝ }
+    ensures { λ _. ⌜ Stays (openWords (beginOpens dayLimits (now (text .entry)) (length (now (cost .entry))) (length (now (choice .entry))) (length (now (next .entry))) (length (now (numbers .entry)))) costArea) (now (cost .entry)) (now (cost .exit)) ⌝ }
+    ensures { λ _. ⌜ Stays (openWords (beginOpens dayLimits (now (text .entry)) (length (now (cost .entry))) (length (now (choice .entry))) (length (now (next .entry))) (length (now (numbers .entry)))) choiceArea) (now (choice .entry)) (now (choice .exit)) ⌝ }
+{
+    text_rolling::begin_text(text, cost, choice, next, numbers)
+}
+
+// Closes the first open slot of a kept state: 0 with the state's numbers; or the number of the refusal.
+#[no_mangle]
+pub extern "C" fn yard_close(text: &[u8], closed: u32, row: &[u8], numbers: &mut [u64]) -> u64
+    ensures { λ r. ⌜ r ≡ code (closeFor dayLimits (now (text .entry)) closed (now (row .entry)) (length (now (numbers .entry)))) ⌝ }
+    ensures { λ _. ⌜ now (numbers .exit) ≡ stateNumbers dayLimits (closeFor dayLimits (now (text .entry)) closed (now (row .entry)) (length (now (numbers .entry)))) (now (numbers .entry)) ⌝ }
+{
+    text_rolling::close_text(text, closed, row, numbers)
+}
+
+// Cancels a train of a kept state: 0 with the new day file in the first bytes of `day`, the new plan in those of `next`, and the state's
+// numbers; or the number of the refusal with what it carries.
+#[no_mangle]
+pub extern "C" fn yard_cancel(
+    text: &[u8],
+    closed: u32,
+    row: &[u8],
+    train: u32,
+    cost: &mut [u64],
+    choice: &mut [u16],
+    day: &mut [u8],
+    next: &mut [u8],
+    numbers: &mut [u64],
+) -> u64
+    ensures { λ r. ⌜ r ≡ code (changeFor dayLimits (now (text .entry)) closed (now (row .entry)) (cancel train) (length (now (cost .entry))) (length (now (choice .entry))) (length (now (day .entry))) (length (now (next .entry))) (length (now (numbers .entry)))) ⌝ }
+    ensures { λ _. ⌜ now (numbers .exit) ≡ stateNumbers dayLimits (changeFor dayLimits (now (text .entry)) closed (now (row .entry)) (cancel train) (length (now (cost .entry))) (length (now (choice .entry))) (length (now (day .entry))) (length (now (next .entry))) (length (now (numbers .entry)))) (now (numbers .entry)) ⌝ }
+    ensures { λ _. ⌜ now (day .exit) ≡ dayAfter dayLimits (changeFor dayLimits (now (text .entry)) closed (now (row .entry)) (cancel train) (length (now (cost .entry))) (length (now (choice .entry))) (length (now (day .entry))) (length (now (next .entry))) (length (now (numbers .entry)))) (now (day .entry)) ⌝ }
+    ensures { λ _. ⌜ now (next .exit) ≡ planAfter (changeFor dayLimits (now (text .entry)) closed (now (row .entry)) (cancel train) (length (now (cost .entry))) (length (now (choice .entry))) (length (now (day .entry))) (length (now (next .entry))) (length (now (numbers .entry)))) (now (next .entry)) ⌝ }
+    ensures { λ _. ⌜ Stays (openWords (changeOpens dayLimits (now (text .entry)) closed (now (row .entry)) (cancel train) (length (now (cost .entry))) (length (now (choice .entry))) (length (now (day .entry))) (length (now (next .entry))) (length (now (numbers .entry)))) costArea) (now (cost .entry)) (now (cost .exit)) ⌝ }
+    ensures { λ _. ⌜ Stays (openWords (changeOpens dayLimits (now (text .entry)) closed (now (row .entry)) (cancel train) (length (now (cost .entry))) (length (now (choice .entry))) (length (now (day .entry))) (length (now (next .entry))) (length (now (numbers .entry)))) choiceArea) (now (choice .entry)) (now (choice .exit)) ⌝ }
+{
+    text_rolling::change_text(
+        text,
+        closed,
+        row,
+        Change::Cancel(train),
+        cost,
+        choice,
+        day,
+        next,
+        numbers,
+    )
+}
+
+// Adds a train with its window, the same way.
+#[no_mangle]
+pub extern "C" fn yard_add(
+    text: &[u8],
+    closed: u32,
+    row: &[u8],
+    train: u32,
+    first: u32,
+    last: u32,
+    cost: &mut [u64],
+    choice: &mut [u16],
+    day: &mut [u8],
+    next: &mut [u8],
+    numbers: &mut [u64],
+) -> u64
+    ensures { λ r. ⌜ r ≡ code (changeFor dayLimits (now (text .entry)) closed (now (row .entry)) (add train first last) (length (now (cost .entry))) (length (now (choice .entry))) (length (now (day .entry))) (length (now (next .entry))) (length (now (numbers .entry)))) ⌝ }
+    ensures { λ _. ⌜ now (numbers .exit) ≡ stateNumbers dayLimits (changeFor dayLimits (now (text .entry)) closed (now (row .entry)) (add train first last) (length (now (cost .entry))) (length (now (choice .entry))) (length (now (day .entry))) (length (now (next .entry))) (length (now (numbers .entry)))) (now (numbers .entry)) ⌝ }
+    ensures { λ _. ⌜ now (day .exit) ≡ dayAfter dayLimits (changeFor dayLimits (now (text .entry)) closed (now (row .entry)) (add train first last) (length (now (cost .entry))) (length (now (choice .entry))) (length (now (day .entry))) (length (now (next .entry))) (length (now (numbers .entry)))) (now (day .entry)) ⌝ }
+    ensures { λ _. ⌜ now (next .exit) ≡ planAfter (changeFor dayLimits (now (text .entry)) closed (now (row .entry)) (add train first last) (length (now (cost .entry))) (length (now (choice .entry))) (length (now (day .entry))) (length (now (next .entry))) (length (now (numbers .entry)))) (now (next .entry)) ⌝ }
+    ensures { λ _. ⌜ Stays (openWords (changeOpens dayLimits (now (text .entry)) closed (now (row .entry)) (add train first last) (length (now (cost .entry))) (length (now (choice .entry))) (length (now (day .entry))) (length (now (next .entry))) (length (now (numbers .entry)))) costArea) (now (cost .entry)) (now (cost .exit)) ⌝ }
+    ensures { λ _. ⌜ Stays (openWords (changeOpens dayLimits (now (text .entry)) closed (now (row .entry)) (add train first last) (length (now (cost .entry))) (length (now (choice .entry))) (length (now (day .entry))) (length (now (next .entry))) (length (now (numbers .entry)))) choiceArea) (now (choice .entry)) (now (choice .exit)) ⌝ }
+{
+    text_rolling::change_text(
+        text,
+        closed,
+        row,
+        Change::Add {
+            number: train,
+            first: first,
+            last: last,
+        },
+        cost,
+        choice,
+        day,
+        next,
+        numbers,
+    )
+}
+
+// Sets the boxes that one train receives from another, the same way.
+#[no_mangle]
+pub extern "C" fn yard_set_boxes(
+    text: &[u8],
+    closed: u32,
+    row: &[u8],
+    to: u32,
+    from: u32,
+    boxes: u32,
+    cost: &mut [u64],
+    choice: &mut [u16],
+    day: &mut [u8],
+    next: &mut [u8],
+    numbers: &mut [u64],
+) -> u64
+    ensures { λ r. ⌜ r ≡ code (changeFor dayLimits (now (text .entry)) closed (now (row .entry)) (setBoxes to from boxes) (length (now (cost .entry))) (length (now (choice .entry))) (length (now (day .entry))) (length (now (next .entry))) (length (now (numbers .entry)))) ⌝ }
+    ensures { λ _. ⌜ now (numbers .exit) ≡ stateNumbers dayLimits (changeFor dayLimits (now (text .entry)) closed (now (row .entry)) (setBoxes to from boxes) (length (now (cost .entry))) (length (now (choice .entry))) (length (now (day .entry))) (length (now (next .entry))) (length (now (numbers .entry)))) (now (numbers .entry)) ⌝ }
+    ensures { λ _. ⌜ now (day .exit) ≡ dayAfter dayLimits (changeFor dayLimits (now (text .entry)) closed (now (row .entry)) (setBoxes to from boxes) (length (now (cost .entry))) (length (now (choice .entry))) (length (now (day .entry))) (length (now (next .entry))) (length (now (numbers .entry)))) (now (day .entry)) ⌝ }
+    ensures { λ _. ⌜ now (next .exit) ≡ planAfter (changeFor dayLimits (now (text .entry)) closed (now (row .entry)) (setBoxes to from boxes) (length (now (cost .entry))) (length (now (choice .entry))) (length (now (day .entry))) (length (now (next .entry))) (length (now (numbers .entry)))) (now (next .entry)) ⌝ }
+    ensures { λ _. ⌜ Stays (openWords (changeOpens dayLimits (now (text .entry)) closed (now (row .entry)) (setBoxes to from boxes) (length (now (cost .entry))) (length (now (choice .entry))) (length (now (day .entry))) (length (now (next .entry))) (length (now (numbers .entry)))) costArea) (now (cost .entry)) (now (cost .exit)) ⌝ }
+    ensures { λ _. ⌜ Stays (openWords (changeOpens dayLimits (now (text .entry)) closed (now (row .entry)) (setBoxes to from boxes) (length (now (cost .entry))) (length (now (choice .entry))) (length (now (day .entry))) (length (now (next .entry))) (length (now (numbers .entry)))) choiceArea) (now (choice .entry)) (now (choice .exit)) ⌝ }
+{
+    text_rolling::change_text(
+        text,
+        closed,
+        row,
+        Change::SetBoxes {
+            to: to,
+            from: from,
+            boxes: boxes,
+        },
+        cost,
+        choice,
+        day,
+        next,
+        numbers,
+    )
 }

@@ -8,7 +8,7 @@ use borrow.Author.Needs.{needs}
 use Rattle.day.specs.Sound.{yard}
 use Rattle.rolling.specs.Rolling.{Account}
 use Rattle.rolling_state.specs.States.{stateIn}
-use Rattle.rolling_calls.specs.Laws.{few-trains}
+use Rattle.rolling_state.specs.Laws.{few-trains}
 use Rattle.rolling_calls.proofs.account_of.Statement.{statement}
 use Rattle.rolling_calls.proofs.account_of.Tie as tie
 

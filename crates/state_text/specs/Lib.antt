@@ -1,0 +1,2 @@
+pub mod StateText
+pub mod Laws

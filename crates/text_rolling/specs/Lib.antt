@@ -1,0 +1,3 @@
+pub mod TextRolling
+pub mod Laws
+pub mod Ways
