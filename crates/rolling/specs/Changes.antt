@@ -26,7 +26,7 @@ use borrow.Author.Tests.{eq-eqb}
 use Rattle.fold.specs.Column.{column-length, column-past}
 use Rattle.rolling.specs.Rolling.{Account, placeOf, isListed, moved, sourceWithout, sourceWith, withoutTrain, Change, cancel, add, setBoxes, edited, numberIn, changeChecks, cut, Keeps}
 use Rattle.rolling.specs.Places.{without-before, without-after, with-here, place-le, place-before, place-after, listed-there}
-use Rattle.rolling.specs.Edits.{from-trains, less-at, less-sound, old-train, more-at, new-at, old-at, more-sound, boxes-sound}
+use Rattle.rolling.specs.Edits.{NewTrain, from-trains, less-at, less-sound, old-train, more-at, new-at, old-at, more-sound, boxes-sound}
 use Rattle.rolling.specs.Cut.{Standing, keeps-cut}
 
 module _ {l : Limits} {a : Account} (s : Standing l a) where
@@ -40,6 +40,11 @@ module _ {l : Limits} {a : Account} (s : Standing l a) where
       let (there, w) = both-of (isListed (a .day) x) waits b in
       (listed-there (a .day) x there .0, eqb→eq _ _ w, ltb→lt _ _ others)
 
+  pub cancel-listed : (x : ℕ) → AllHold (changeChecks l a (cancel x)) → T (isListed (a .day) x)
+  cancel-listed x (n, (t, u)) =
+      let waits = eqb (slotOf (a .served) (placeOf (a .day) x)) 0 in
+      both-of (isListed (a .day) x) waits (both-of (isListed (a .day) x && waits) (ltb 1 (a .day .trains)) t .0) .0
+
   pub boxes-say : (to from boxes : ℕ) → AllHold (changeChecks l a (setBoxes to from boxes))
       → (placeOf (a .day) to < a .day .trains) × (placeOf (a .day) from < a .day .trains) × (placeOf (a .day) to ≢ placeOf (a .day) from) × (boxes ≤ l .boxes)
   boxes-say to from boxes (n, (t, (d, u))) =
@@ -52,6 +57,12 @@ module _ {l : Limits} {a : Account} (s : Standing l a) where
         λ e. not-of (eqb to from) d (of-true (eq-eqb to from (sym ep ∙ ap (λ k. getD (a .day .numbers) k 0) e ∙ eq))),
         leb→le _ _ most,
       )
+
+  pub boxes-listed : (to from boxes : ℕ) → AllHold (changeChecks l a (setBoxes to from boxes))
+      → (getD (a .day .numbers) (placeOf (a .day) to) 0 ≡ to) × (getD (a .day .numbers) (placeOf (a .day) from) 0 ≡ from)
+  boxes-listed to from boxes (n, (t, (d, u))) =
+      let (p, q) = both-of (isListed (a .day) to) (isListed (a .day) from) t in
+      (listed-there (a .day) to p .1, listed-there (a .day) from q .1)
 
   -- ---- a standing account
 
@@ -78,29 +89,37 @@ module _ {l : Limits} {a : Account} (s : Standing l a) where
             omega arith;
       }
 
-  add-standing : (x first last : ℕ) → AllHold (changeChecks l a (add x first last)) → Standing l (edited a (add x first last))
+  pub add-says : (x first last : ℕ) → AllHold (changeChecks l a (add x first last)) → NewTrain l (a .day) (placeOf (a .day) x) x first last × (a .closed < first)
   unfolding trainRanges
-  add-standing x first last (n, (t, (w, u))) =
+  add-says x first last (n, (t, (w, u))) =
+      let y = a .day in
+      let (number, (e, (f, v))) = within-is (trainRanges l (y .slots)) (x ∷ first ∷ last ∷ []) n in
+      let (new, room) = both-of (not (isListed y x)) (ltb (y .trains) (l .trains)) t in
+      let (order, opens) = both-of (leb first last) (ltb (a .closed) first) w in (
+        record {
+          room = ltb→lt _ _ room;
+          atMost = place-le y x;
+          numbered = number;
+          window = (e .0, leb→le _ _ order, f .1);
+          before = place-before y x;
+          after = place-after y x l (s .isSound) new;
+        },
+        ltb→lt _ _ opens,
+      )
+
+  add-standing : (x first last : ℕ) → AllHold (changeChecks l a (add x first last)) → Standing l (edited a (add x first last))
+  add-standing x first last h =
       let y = a .day in
       let d = s .isSound in
       let p : ℕ = placeOf y x in
-      let (number, (e, (f, v))) = within-is (trainRanges l (y .slots)) (x ∷ first ∷ last ∷ []) n in
-      let (new, r) = both-of (not (isListed y x)) (ltb (y .trains) (l .trains)) t in
-      let (o, c) = both-of (leb first last) (ltb (a .closed) first) w in
-      let room : y .trains < l .trains = ltb→lt _ _ r in
-      let order : first ≤ last = leb→le _ _ o in
-      let opens : a .closed < first = ltb→lt _ _ c in
-      let most = place-le y x in
-      let window : (1 ≤ first) × (first ≤ last) × (last ≤ y .slots) = (e .0, order, f .1) in
-      let before = place-before y x in
-      let after = place-after y x l d new in
-      let served-at = more-at d p x first last room most number window before after (a .served) in
-      let first-at = old-at d p x first last room most number window before after (y .first) first in
-      let last-at = old-at d p x first last room most number window before after (y .last) last in
-      let last-new = new-at d p x first last room most number window before after (y .last) last in
-      let old = old-train d p x first last room most number window before after in
+      let (new, opens) = add-says x first last h in
+      let served-at = more-at d new (a .served) in
+      let first-at = old-at d new (y .first) first in
+      let last-at = old-at d new (y .last) last in
+      let last-new = new-at d new (y .last) last in
+      let old = old-train d new in
       record {
-        isSound = more-sound d p x first last room most number window before after;
+        isSound = more-sound d new;
         closed = s .closed;
         long = column-length (y .width) (suc (y .trains)) (λ i. getD (a .served) (sourceWith (y .trains) p i) 0) ∙ d .limits .shape .width;
         past = λ i h. column-past (y .width) (suc (y .trains)) (λ i. getD (a .served) (sourceWith (y .trains) p i) 0) i h;

@@ -17,6 +17,16 @@ use Rattle.rolling.specs.Rolling.{moved, rearranged, sourceWithout, sour
 use Rattle.day.specs.SoundDay.{SoundDay, numberAt, rises}
 use Rattle.rolling.specs.Places.{without-before, without-after, with-before, with-here, with-after, before-or}
 
+-- a train that may come in at position p: there is room, the fields lie in their ranges, and the numbers before and after it are lower and
+-- higher
+pub record NewTrain (l : Limits) (y : Yard) (p number first last : ℕ) : Type 0 where
+  pub room : y .trains < l .trains
+  pub atMost : p ≤ y .trains
+  pub numbered : (1 ≤ number) × (number ≤ l .number)
+  pub window : (1 ≤ first) × (first ≤ last) × (last ≤ y .slots)
+  pub before : (i : ℕ) → i < p → numberAt y i < number
+  pub after : (i : ℕ) → p ≤ i → i < y .trains → number < numberAt y i
+
 -- ---- the boxes of a rearranged day
 
 module _ {l : Limits} {y : Yard} (s : SoundDay l y) where
@@ -98,6 +108,9 @@ module _ {l : Limits} {y : Yard} (s : SoundDay l y) where
     pub less-at : (c : List ℕ) (i : ℕ) → i < y .trains - 1 → getD (moved (y .width) (y .trains - 1) (sourceWithout p) c) i 0 ≡ getD c (sourceWithout p i) 0
     less-at = moved-at (y .trains - 1) (sourceWithout p) few from-places
 
+    pub less-received : (i j : ℕ) → i < y .trains - 1 → j < y .trains - 1 → received (withoutTrain p y) i j ≡ received y (sourceWithout p i) (sourceWithout p j)
+    less-received = moved-received (y .trains - 1) (sourceWithout p) few from-places
+
     pub less-sound : SoundDay l (withoutTrain p y)
     less-sound =
         let d = s .limits in
@@ -134,9 +147,7 @@ module _ {l : Limits} {y : Yard} (s : SoundDay l y) where
 
   -- ---- a train more
 
-  module _ (p number first last : ℕ) (room : y .trains < l .trains) (at-most : p ≤ y .trains)
-      (numbered : (1 ≤ number) × (number ≤ l .number)) (window : (1 ≤ first) × (first ≤ last) × (last ≤ y .slots))
-      (before : (i : ℕ) → i < p → numberAt y i < number) (after : (i : ℕ) → p ≤ i → i < y .trains → number < numberAt y i) where
+  module _ {p number first last : ℕ} (new : NewTrain l y p number first last) where
     -- the train that a position other than p had
     pub old-train : (i : ℕ) → i ≢ p → i < suc (y .trains) → sourceWith (y .trains) p i < y .trains
     old-train i d h =
@@ -152,10 +163,14 @@ module _ {l : Limits} {y : Yard} (s : SoundDay l y) where
 
     more-length : (c : List ℕ) → length (column-of c) ≡ l .trains
     unfolding column-of
-    more-length c = moved-length (suc (y .trains)) (sourceWith (y .trains) p) room old-place c
+    more-length c = moved-length (suc (y .trains)) (sourceWith (y .trains) p) (new .room) old-place c
 
     pub more-at : (c : List ℕ) (i : ℕ) → i < suc (y .trains) → getD (moved (y .width) (suc (y .trains)) (sourceWith (y .trains) p) c) i 0 ≡ getD c (sourceWith (y .trains) p i) 0
-    more-at c i h = moved-at (suc (y .trains)) (sourceWith (y .trains) p) room old-place c i h
+    more-at c i h = moved-at (suc (y .trains)) (sourceWith (y .trains) p) (new .room) old-place c i h
+
+    pub more-received : (i j : ℕ) → i < suc (y .trains) → j < suc (y .trains)
+        → received (withTrain p number first last y) i j ≡ received y (sourceWith (y .trains) p i) (sourceWith (y .trains) p j)
+    more-received = moved-received (suc (y .trains)) (sourceWith (y .trains) p) (new .room) old-place
 
     -- position p has the new value, another one that of its train
     pub new-at : (c : List ℕ) (x i : ℕ) → i ≡ p → getD (set (moved (y .width) (suc (y .trains)) (sourceWith (y .trains) p) c) p x) i 0 ≡ x
@@ -196,7 +211,7 @@ module _ {l : Limits} {y : Yard} (s : SoundDay l y) where
     more-groups : (i : ℕ) → i < suc (y .trains) → groupOf (new-day .groups) i ≤ l .groups
     more-groups i h =
         let q = more-at (y .groups) i h in
-        ⊎-elim (λ (e : i ≡ p). let f = ap (groupOf (y .groups)) (with-here (y .trains) p i e) in let z = s .ungrouped (y .trains) (omega arith) room in omega arith)
+        ⊎-elim (λ (e : i ≡ p). let f = ap (groupOf (y .groups)) (with-here (y .trains) p i e) in let z = s .ungrouped (y .trains) (omega arith) (new .room) in omega arith)
         (λ (d : i ≢ p). let g = s .limits .groups (sourceWith (y .trains) p i) (old-train i d h) in omega arith) (same-or i p)
 
     -- the numbers still rise: before the new one, at it, behind it
@@ -208,7 +223,7 @@ module _ {l : Limits} {y : Yard} (s : SoundDay l y) where
         let e = with-before (y .trains) p i k in
         let qe = ap (numberAt y) e in
         ⊎-elim
-        (λ (g : suc i ≡ p). let r = new-at (y .numbers) number (suc i) g in let b = before i k in omega arith)
+        (λ (g : suc i ≡ p). let r = new-at (y .numbers) number (suc i) g in let b = new .before i k in omega arith)
         (λ (g : suc i ≢ p).
         let r = old-at (y .numbers) number (suc i) g h in
         let f = with-before (y .trains) p (suc i) (omega arith) in
@@ -221,7 +236,7 @@ module _ {l : Limits} {y : Yard} (s : SoundDay l y) where
         let f : sourceWith (y .trains) p (suc i) ≡ i = with-after (y .trains) p (suc i) (behind c) ∙ omega arith in
         let rf = ap (numberAt y) f in
         ⊎-elim
-        (λ (e : i ≡ p). let q = new-at (y .numbers) number i e in let b = after i (omega arith) (omega arith) in omega arith)
+        (λ (e : i ≡ p). let q = new-at (y .numbers) number i e in let b = new .after i (omega arith) (omega arith) in omega arith)
         (λ (k : p < i).
         let q = old-at (y .numbers) number i (λ e. omega arith) (omega arith) in
         let e : suc (sourceWith (y .trains) p i) ≡ i = let g = with-after (y .trains) p i k in omega arith in
@@ -239,30 +254,30 @@ module _ {l : Limits} {y : Yard} (s : SoundDay l y) where
     pub more-sound : SoundDay l new-day
     more-sound =
         let d = s .limits in
-        let z = moved-shape (suc (y .trains)) (sourceWith (y .trains) p) room old-place in
+        let z = moved-shape (suc (y .trains)) (sourceWith (y .trains) p) (new .room) old-place in
         record {
           limits = record {
             shape = record { width = z .width; numbers = set-length (y .numbers) number; first = set-length (y .first) first; last = set-length (y .last) last; groups = z .groups; boxes = z .boxes };
-            trains = (omega arith, room);
+            trains = (omega arith, new .room);
             tracks = d .tracks;
             slots = d .slots;
             weights = d .weights;
             numbers = more-numbers;
             windows = more-windows;
-            boxes = moved-limit (suc (y .trains)) (sourceWith (y .trains) p) room old-place;
-            own = moved-own (suc (y .trains)) (sourceWith (y .trains) p) room old-place;
+            boxes = moved-limit (suc (y .trains)) (sourceWith (y .trains) p) (new .room) old-place;
+            own = moved-own (suc (y .trains)) (sourceWith (y .trains) p) (new .room) old-place;
             groups = more-groups;
           };
           rising = more-rising;
           unused = λ i h k. (past-at (y .numbers) number i h, past-at (y .first) first i h, past-at (y .last) last i h);
           ungrouped = λ i h k. column-past (y .width) (suc (y .trains)) (λ i. getD (y .groups) (sourceWith (y .trains) p i) 0) i h;
-          without = moved-without (suc (y .trains)) (sourceWith (y .trains) p) room old-place;
+          without = moved-without (suc (y .trains)) (sourceWith (y .trains) p) (new .room) old-place;
         }
 
     -- the new train has no boxes
     pub new-boxes : (i j : ℕ) → i < suc (y .trains) → j < suc (y .trains) → (i ≡ p) ⊎ (j ≡ p) → received new-day i j ≡ 0
     new-boxes i j hi hj c =
-        moved-received (suc (y .trains)) (sourceWith (y .trains) p) room old-place i j hi hj
+        moved-received (suc (y .trains)) (sourceWith (y .trains) p) (new .room) old-place i j hi hj
         ∙ ⊎-elim
         (λ (e : i ≡ p). s .without (sourceWith (y .trains) p i) (sourceWith (y .trains) p j) (old-place i hi) (old-place j hj) (inl (omega (arith, with-here (y .trains) p i e))))
         (λ (e : j ≡ p). s .without (sourceWith (y .trains) p i) (sourceWith (y .trains) p j) (old-place i hi) (old-place j hj) (inr (inl (omega (arith, with-here (y .trains) p j e))))) c
@@ -270,7 +285,16 @@ module _ {l : Limits} {y : Yard} (s : SoundDay l y) where
   -- ---- other boxes
 
   module _ (p q boxes : ℕ) (hp : p < y .trains) (hq : q < y .trains) (apart : p ≢ q) (limit : boxes ≤ l .boxes) where
-    index : (i j : ℕ) → i < l .trains → j < l .trains → (received (withBoxes p q boxes y) i j ≡ received y i j) ⊎ ((i ≡ p) × (j ≡ q) × (received (withBoxes p q boxes y) i j ≡ boxes))
+    inside : p * y .width + q < length (y .boxes)
+    inside =
+        let w = s .limits .shape .width in
+        let t = s .limits .trains in
+        let b = s .limits .shape .boxes in
+        let g = digits-lt {q = p} {m = l .trains} {r = q} {c = l .trains} (omega arith) (omega arith) in
+        subst (λ k. p * k + q < length (y .boxes)) (sym w) (omega arith)
+
+    -- an entry of the table is as before, or it is the one that was set
+    pub index : (i j : ℕ) → i < l .trains → j < l .trains → (received (withBoxes p q boxes y) i j ≡ received y i j) ⊎ ((i ≡ p) × (j ≡ q) × (received (withBoxes p q boxes y) i j ≡ boxes))
     index i j hi hj =
         let w = s .limits .shape .width in
         let t = s .limits .trains in
@@ -283,13 +307,13 @@ module _ {l : Limits} {y : Yard} (s : SoundDay l y) where
         inr (
           ip,
           jq,
-          ap (λ k. getD (set (y .boxes) (p * y .width + q) boxes) k 0) e
-              ∙ getD-set-same (y .boxes) (p * y .width + q) boxes 0
-              (let b = s .limits .shape .boxes in let g = digits-lt {q = p} {m = l .trains} {r = q} {c = l .trains} (omega arith) (omega arith) in
-              subst (λ k. p * k + q < length (y .boxes)) (sym w) (omega arith)),
+          ap (λ k. getD (set (y .boxes) (p * y .width + q) boxes) k 0) e ∙ getD-set-same (y .boxes) (p * y .width + q) boxes 0 inside,
         ))
         (λ (d : i * y .width + j ≢ p * y .width + q). inl (getD-set-other (y .boxes) (p * y .width + q) (i * y .width + j) boxes 0 d))
         (same-or (i * y .width + j) (p * y .width + q))
+
+    pub boxes-put : received (withBoxes p q boxes y) p q ≡ boxes
+    boxes-put = getD-set-same (y .boxes) (p * y .width + q) boxes 0 inside
 
     pub boxes-sound : SoundDay l (withBoxes p q boxes y)
     boxes-sound =

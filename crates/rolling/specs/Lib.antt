@@ -8,3 +8,5 @@ pub mod Follows
 pub mod Answers
 pub mod Replanned
 pub mod Undone
+pub mod Refusals
+pub mod ByNumber

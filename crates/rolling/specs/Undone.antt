@@ -41,7 +41,7 @@ module _ (n p : ℕ) where
       ⊎-elim (λ (h : p ≤ i). ap (sourceWith n p) (without-after p i h) ∙ with-after n p (suc i) (omega arith) ∙ omega arith)
       (λ (h : i < p). ap (sourceWith n p) (without-before p i h) ∙ with-before n p i h) (le-or-lt p i)
 
-  source-other : (i : ℕ) → sourceWithout p i ≢ p
+  pub source-other : (i : ℕ) → sourceWithout p i ≢ p
   source-other i e =
       ⊎-elim (λ (h : p ≤ i). let f = without-after p i h in omega arith) (λ (h : i < p). let f = without-before p i h in omega arith) (le-or-lt p i)
 
@@ -116,7 +116,7 @@ module _ {l : Limits} {y : Yard} (s : SoundDay l y) (room : y .trains < l .train
   abbrev after : Yard
   after = withTrain (placeOf y x) x first last y
 
-  number-here : numberAt after (placeOf y x) ≡ x
+  pub number-here : numberAt after (placeOf y x) ≡ x
   number-here =
       getD-set-same (moved (y .width) (suc (y .trains)) (sourceWith (y .trains) (placeOf y x)) (y .numbers)) (placeOf y x) x 0
       (let e = column-length (y .width) (suc (y .trains)) (λ i. getD (y .numbers) (sourceWith (y .trains) (placeOf y x) i) 0) in let m = place-le y x in let h = wide in omega arith)

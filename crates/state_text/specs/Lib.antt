@@ -1,2 +1,3 @@
 pub mod StateText
 pub mod Laws
+pub mod Kept

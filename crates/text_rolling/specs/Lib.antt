@@ -1,3 +1,4 @@
 pub mod TextRolling
 pub mod Laws
 pub mod Ways
+pub mod Means

@@ -1,0 +1,75 @@
+-- A state that is kept: what is written of it, read again, is the same state. So a program that stops can go on with the bytes that it has.
+--   kept-again     the day file, the closed slots and the plan of a sound state are kept as that state;
+--   kept-only      what is kept as a state has the day of its text, the closed slots that were given, and the row as its plan;
+--   written-again  the first bytes of lent output, as many as the numbers say, are kept as the state that was given.
+-- Assumes nothing.
+use mathlib.Core.Path.{_≡_, refl, sym, ap, ap₂, _∙_, subst}
+use mathlib.Core.List.{List, [], _∷_, _++_}
+use Prim.Native.Nat.{ℕ, _≤_, _<_}
+use native.Mathlib.Omega.{arith}
+use lib.Dec.{T, eqb, eqb→eq}
+use lib.ListN.{length, take, drop}
+use lib.Seq.{take-append-seam, length-take-le}
+use borrow.Author.Tests.{eq-eqb}
+use Rattle.fold.specs.Column.{column, column-at, column-ext, is-column}
+use Rattle.model.specs.Model.{slotOf}
+use Rattle.day.specs.Answer.{gives, must, checked}
+use Rattle.day.specs.AnswerLaws.{gives-same, checked-gives, given-before}
+use Rattle.day.specs.SoundLaws.{sound-is}
+use Rattle.day.specs.declared.Limits.{Limits}
+use Rattle.dayfile.specs.Reading.{readDay}
+use Rattle.dayfile.specs.Writing.{dayText, Short}
+use Rattle.dayfile.specs.RoundTrip.{write-read}
+use Rattle.rolling.specs.Rolling.{State, planOf, stateSound}
+use Rattle.rolling.specs.States.{sound-state, plan-at}
+use Rattle.state_text.specs.StateText.{stateWith, keptState, dayAfter, planAfter}
+
+module _ (l : Limits) (short : Short l) (s : State) (t : T (stateSound l s)) where
+  -- the plan has a slot for each train
+  plan-long : length (planOf s) ≡ s .day .trains
+  plan-long =
+      let d = sound-state l s t in
+      length-take-le (s .day .trains) (s .row) (omega (arith, d .long, sound-is l (s .day) (d .isSound) .trains .1))
+
+  same-row : column (s .day .width) (s .day .trains) (slotOf (planOf s)) ≡ s .row
+  same-row =
+      let d = sound-state l s t in
+      let w = s .day .width in
+      let n = s .day .trains in
+      column-ext w n (slotOf (planOf s)) (slotOf (s .row)) (plan-at d)
+      ∙ is-column w n (s .row) (d .long ∙ sym (sound-is l (s .day) (d .isSound) .shape .width)) (d .past)
+
+  pub kept-again : keptState l (dayText l (s .day)) (s .closed) (planOf s) ≡ gives s
+  unfolding keptState
+  kept-again =
+      rw (write-read l (s .day) short (sound-state l s t .isSound), eq-eqb (length (planOf s)) (s .day .trains) plan-long)
+      (ap (λ r. gives (record { day = s .day; closed = s .closed; row = r })) same-row)
+
+  -- lent output: the numbers told are the lengths of what stands in it
+  pub written-again : (day next : List ℕ)
+      → keptState l (take (length (dayText l (s .day))) (dayAfter l (gives s) day)) (s .closed) (take (s .day .trains) (planAfter (gives s) next)) ≡ gives s
+  written-again day next =
+      ap₂ (λ (text row : List ℕ). keptState l text (s .closed) row)
+      (take-append-seam (dayText l (s .day)) (drop (length (dayText l (s .day))) day))
+      (ap (λ k. take k (planOf s ++ drop (length (planOf s)) next)) (sym plan-long) ∙ take-append-seam (planOf s) (drop (length (planOf s)) next))
+      ∙ kept-again
+
+pub record KeptOnly (l : Limits) (text : List ℕ) (closed : ℕ) (row : List ℕ) (s : State) : Type 0 where
+  pub reads : readDay l text ≡ gives (s .day)
+  pub sameClosed : s .closed ≡ closed
+  pub long : length row ≡ s .day .trains
+  pub slots : (i : ℕ) → i < length row → i < s .day .width → slotOf (s .row) i ≡ slotOf row i
+
+pub kept-only : (l : Limits) (text : List ℕ) (closed : ℕ) (row : List ℕ) (s : State) → keptState l text closed row ≡ gives s → KeptOnly l text closed row s
+unfolding keptState
+kept-only l text closed row s e =
+    let (y, r, q) = given-before (readDay l text) (λ y. checked (must (eqb (length row) (y .trains)) 8 (0 ∷ []) ∷ []) (gives (stateWith y closed row))) s e in
+    let ((h, u), p) = checked-gives (must (eqb (length row) (y .trains)) 8 (0 ∷ []) ∷ []) (gives (stateWith y closed row)) s q in
+    let long : length row ≡ y .trains = eqb→eq (length row) (y .trains) h in
+    subst (KeptOnly l text closed row) (gives-same p)
+    (record {
+      reads = r;
+      sameClosed = refl;
+      long = long;
+      slots = λ i a b. column-at (y .width) (y .trains) (slotOf row) i b (omega arith);
+    })
