@@ -85,11 +85,11 @@ pub record KeepsRow (s : State) (other : List ℕ) : Type 0 where
   pub waiting : (i : ℕ) → i < s .day .trains → s .closed < slotOf (s .row) i → s .closed < slotOf other i
 
 module _ {l : Limits} {s : State} (d : SoundState l s) where
-  day : SoundDay l (s .day)
-  day = sound-day l (s .day) (d .isSound)
+  record-sound : SoundDay l (s .day)
+  record-sound = sound-day l (s .day) (d .isSound)
 
   fits : (i : ℕ) → i < s .day .trains → i < s .day .width
-  fits i h = let t = day .limits .trains in let w = day .limits .shape .width in omega arith
+  fits i h = let t = record-sound .limits .trains in let w = record-sound .limits .shape .width in omega arith
 
   pub plan-at : (i : ℕ) → i < s .day .trains → slotOf (planOf s) i ≡ slotOf (s .row) i
   plan-at i h = getD-take (s .day .trains) (s .row) i 0 h
@@ -114,9 +114,9 @@ module _ {l : Limits} {s : State} (d : SoundState l s) where
 
   pub state-standing : Standing l (accountOf s)
   state-standing = record {
-    isSound = day;
+    isSound = record-sound;
     closed = d .closed;
-    long = column-length (s .day .width) (s .day .trains) (λ i. servedSlot (s .closed) (slotOf (s .row) i)) ∙ day .limits .shape .width;
+    long = column-length (s .day .width) (s .day .trains) (λ i. servedSlot (s .closed) (slotOf (s .row) i)) ∙ record-sound .limits .shape .width;
     past = λ i h. column-past (s .day .width) (s .day .trains) (λ i. servedSlot (s .closed) (slotOf (s .row) i)) i h;
     served = λ i h k.
         let w = in-window i h in
@@ -133,7 +133,7 @@ module _ {l : Limits} {s : State} (d : SoundState l s) where
   own-state =
       let w = s .day .width in
       let m = s .day .trains in
-      let e = column-ext w m (slotOf (planOf s)) (slotOf (s .row)) plan-at ∙ is-column w m (s .row) (d .long ∙ sym (day .limits .shape .width)) (d .past) in
+      let e = column-ext w m (slotOf (planOf s)) (slotOf (s .row)) plan-at ∙ is-column w m (s .row) (d .long ∙ sym (record-sound .limits .shape .width)) (d .past) in
       λ i. record { day = s .day; closed = s .closed; row = e i }
 
   -- what the account asks of a row, said of the state's own row

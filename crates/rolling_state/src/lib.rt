@@ -29,12 +29,12 @@ pub struct Rolled {
     pub state: RollingState,
 }
 
-pub fn refused(state: RollingState, why: Refusal) -> Rolled
-    ensures { λ r. ⌜ Says (stateIn state) (refusal why) r ⌝ }
+pub fn refused(before: RollingState, why: Refusal) -> Rolled
+    ensures { λ r. ⌜ Says (stateIn before) (refusal why) r ⌝ }
 {
     Rolled {
         verdict: Verdict::Refused(why),
-        state: state,
+        state: before,
     }
 }
 
