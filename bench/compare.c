@@ -1,11 +1,13 @@
 /* Holds the proved library and the C programs of bench/plan.c to each other in one process: the same bytes for every day, then the time
- * of the proved answer divided by that of each C program. bench/run builds and calls it, with -DCOMPILERS='C(gcc) C(clang)' for the
- * compilers whose same_gcc, plain_gcc, same_clang, plain_clang are linked.
+ * of the proved answer divided by that of each C program; then a change on a moving day to the plan of its cut day, the same slots and the
+ * time. bench/run builds and calls it, with -DCOMPILERS='C(gcc) C(clang)' for the compilers whose same_gcc, plain_gcc, same_clang,
+ * plain_clang are linked.
  *
  *     compare ROUNDS                checks all days, measures them in ROUNDS rounds, prints the tables
  *     compare days FOLDER           writes the days as day files, for bench/solver
  *     compare time FILE ROUNDS      prints the nanoseconds of the least proved call on a day file, for bench/solver
  *     compare answer FUNCTION DAY   one call, for instruction counts (bench/run counts)
+ *     compare moving FUNCTION STATE the same of a moving day's functions
  */
 #define _POSIX_C_SOURCE 200809L
 #include <stdio.h>
@@ -392,6 +394,190 @@ static void print_growth(void)
     }
 }
 
+/* ---- moving days: a changed state against its cut day */
+
+/* A state: a main day that was begun, with its first slots closed. The change sets the boxes of one pair to a number that no pair has. The
+ * cut day is what has to be planned then: the changed day, each served train bound to its slot, the windows of the others from the first
+ * open slot on. */
+enum { CHANGED_TO = 12, CHANGED_FROM = 11, CHANGED_BOXES = 41 };
+
+enum mover { SET_BOXES, CLOSE, PLAN_CUT, MOVERS };
+
+struct state {
+    const char *name, *main_day;
+    int parted; /* trains 1 to 3 have slot 1 alone, the others the slots after it */
+    uint32_t closed;
+    struct day day, changed, cut;
+    uint8_t row[YARD_MOST_TRAINS];
+    unsigned served;
+    unsigned calls[MOVERS];
+    double least[MOVERS];
+};
+
+/* On `open` one slot has room for all trains, and they share it: parted, some stay to be planned. */
+static struct state states[] = {
+    {.name = "open-0", .main_day = "open", .closed = 0},
+    {.name = "open-1", .main_day = "open", .closed = 1},
+    {.name = "parted-1", .main_day = "open", .closed = 1, .parted = 1},
+    {.name = "tight-1", .main_day = "tight", .closed = 1},
+    {.name = "tight-2", .main_day = "tight", .closed = 2},
+    {.name = "paper-1", .main_day = "paper", .closed = 1},
+    {.name = "paper-2", .main_day = "paper", .closed = 2},
+};
+
+enum { STATES = sizeof states / sizeof *states };
+
+/* What is lent to a call, and what it leaves. */
+static uint64_t area_cost[YARD_COST_WORDS];
+static uint16_t area_choice[YARD_CHOICE_WORDS];
+
+struct left {
+    uint8_t text[YARD_DAY_BYTES], row[YARD_MOST_TRAINS];
+    uint64_t numbers[YARD_NUMBERS];
+    size_t trains;
+};
+
+typedef uint64_t mover_function(const struct state *s, struct left *left);
+
+static uint64_t set_boxes(const struct state *s, struct left *left)
+{
+    return yard_set_boxes((const uint8_t *)s->day.text, s->day.length, s->closed, s->row, s->day.trains, CHANGED_TO, CHANGED_FROM,
+                          CHANGED_BOXES, area_cost, YARD_COST_WORDS, area_choice, YARD_CHOICE_WORDS, left->text, sizeof left->text,
+                          left->row, sizeof left->row, left->numbers, YARD_NUMBERS);
+}
+
+static uint64_t close_slot(const struct state *s, struct left *left)
+{
+    return yard_close((const uint8_t *)s->day.text, s->day.length, s->closed, s->row, s->day.trains, left->numbers, YARD_NUMBERS);
+}
+
+static uint64_t plan_cut(const struct state *s, struct left *left)
+{
+    return yard_plan_in_workspace((const uint8_t *)s->cut.text, s->cut.length, area_cost, YARD_COST_WORDS, area_choice, YARD_CHOICE_WORDS,
+                                  left->row, sizeof left->row, left->numbers, YARD_NUMBERS, &left->trains);
+}
+
+static const struct {
+    const char *name;
+    mover_function *call;
+} movers[MOVERS] = {
+    [SET_BOXES] = {"yard_set_boxes", set_boxes},
+    [CLOSE] = {"yard_close", close_slot},
+    [PLAN_CUT] = {"yard_plan_in_workspace", plan_cut},
+};
+
+static void part_windows(struct day *d)
+{
+    for (unsigned i = 0; i < d->trains; i++) {
+        if (i < 3)
+            d->last[i] = 1;
+        else
+            d->first[i] = 2;
+    }
+}
+
+static void write_again(struct day *d)
+{
+    d->length = 0;
+    write_text(d);
+}
+
+/* Binds the served trains to their slots, and has the other windows begin at the first open slot. */
+static void cut_windows(struct state *s)
+{
+    s->served = 0;
+    for (size_t i = 0; i < s->cut.trains; i++) {
+        if (s->row[i] <= s->closed) {
+            s->cut.first[i] = s->cut.last[i] = s->row[i];
+            s->served++;
+        } else if (s->cut.first[i] <= s->closed) {
+            s->cut.first[i] = s->closed + 1;
+        }
+    }
+}
+
+/* Begins the day. Closing keeps the day and its plan, so no call is made for it here, which the counts would take in; check_state makes
+ * them. */
+static void make_state(struct state *s)
+{
+    uint64_t numbers[YARD_NUMBERS];
+    for (size_t k = 0; k < day_count; k++)
+        if (strcmp(days[k].name, s->main_day) == 0)
+            s->day = days[k];
+    if (s->parted)
+        part_windows(&s->day);
+    write_again(&s->day);
+    if (yard_begin((const uint8_t *)s->day.text, s->day.length, area_cost, YARD_COST_WORDS, area_choice, YARD_CHOICE_WORDS, s->row,
+                   sizeof s->row, numbers, YARD_NUMBERS) != 0)
+        fail(s->name, "the day was not begun");
+    s->changed = s->day;
+    s->changed.boxes[CHANGED_TO - 1][CHANGED_FROM - 1] = CHANGED_BOXES;
+    write_again(&s->changed);
+    s->cut = s->changed;
+    cut_windows(s);
+    write_again(&s->cut);
+}
+
+/* The slots can be closed up to the state and one more, and the change leaves the changed day and the plan of the cut day. */
+static void check_state(const struct state *s)
+{
+    struct left left, cut;
+    struct state before = *s;
+    for (before.closed = 0; before.closed <= s->closed; before.closed++)
+        if (close_slot(&before, &left) != 0 || left.numbers[0] != before.closed + 1)
+            fail(s->name, "a slot was not closed");
+    if (set_boxes(s, &left) != 0 || plan_cut(s, &cut) != 0)
+        fail(s->name, "a plan was refused");
+    if (cut.trains != s->day.trains || left.numbers[1] != cut.trains || memcmp(left.row, cut.row, cut.trains) != 0)
+        fail(s->name, "the changed state has another plan than its cut day");
+    if (left.numbers[0] != s->closed || left.numbers[2] != s->changed.length || memcmp(left.text, s->changed.text, s->changed.length) != 0)
+        fail(s->name, "the changed state has another day");
+}
+
+static double time_mover(const struct state *s, size_t f)
+{
+    struct left left;
+    double from = now();
+    for (unsigned k = 0; k < s->calls[f]; k++)
+        movers[f].call(s, &left);
+    return (now() - from) / s->calls[f];
+}
+
+static void measure_states(unsigned rounds)
+{
+    for (size_t k = 0; k < STATES; k++) {
+        make_state(&states[k]);
+        check_state(&states[k]);
+        for (size_t f = 0; f < MOVERS; f++)
+            for (states[k].calls[f] = 1; states[k].calls[f] < 1000 && time_mover(&states[k], f) * states[k].calls[f] < 2e5;)
+                states[k].calls[f] *= 2;
+    }
+    for (unsigned round = 0; round < rounds; round++) {
+        for (size_t k = 0; k < STATES; k++) {
+            for (size_t turn = 0; turn < MOVERS; turn++) {
+                size_t f = (turn + round) % MOVERS;
+                double t = time_mover(&states[k], f);
+                if (round == 0 || t < states[k].least[f])
+                    states[k].least[f] = t;
+            }
+        }
+    }
+}
+
+static void print_states(void)
+{
+    printf("\n%-52s %10s %10s\n", "moving days: time, planning the cut day being 1", "set boxes", "close");
+    for (size_t k = 0; k < STATES; k++) {
+        const struct state *s = &states[k];
+        char label[64];
+        snprintf(label, sizeof label, "%s: %u of %u slots closed, %u of %u trains served", s->name, s->closed, s->day.slots, s->served,
+                 s->day.trains);
+        printf("%-52s %10.2f %10.4f\n", label, s->least[SET_BOXES] / s->least[PLAN_CUT], s->least[CLOSE] / s->least[PLAN_CUT]);
+    }
+}
+
+/* ---- all of it */
+
 static int compare(unsigned rounds)
 {
     for (size_t k = 0; k < day_count; k++) {
@@ -400,12 +586,14 @@ static int compare(unsigned rounds)
     }
     printf("%zu days: the same bytes from all %d functions\n", day_count, FUNCTIONS);
     measure(rounds);
+    measure_states(rounds);
     printf("the proved answer's time divided by C's, least of %u rounds; 'same C' and 'plain C' are the faster compiler's\n", rounds);
     print_group(MAIN, "main days");
     print_published();
     print_growth();
     print_group(WINDOWS, "windows of two slots: probability 0.5");
     print_group(SETS, "three groups of three trains");
+    print_states();
     return 0;
 }
 
@@ -452,6 +640,21 @@ static int answer_once(const char *function, const char *day)
     return 1;
 }
 
+static int move_once(const char *function, const char *state)
+{
+    struct left left;
+    for (size_t f = 0; f < MOVERS; f++) {
+        for (size_t k = 0; k < STATES; k++) {
+            if (strcmp(movers[f].name, function) == 0 && strcmp(states[k].name, state) == 0) {
+                make_state(&states[k]);
+                return movers[f].call(&states[k], &left) != 0;
+            }
+        }
+    }
+    fail(state, "no such function or state");
+    return 1;
+}
+
 int main(int argc, char **argv)
 {
     make_days();
@@ -463,6 +666,8 @@ int main(int argc, char **argv)
         return time_file(argv[2], (unsigned)atoi(argv[3]));
     if (argc == 4 && strcmp(argv[1], "answer") == 0)
         return answer_once(argv[2], argv[3]);
-    fprintf(stderr, "usage: compare ROUNDS | days FOLDER | time FILE ROUNDS | answer FUNCTION DAY\n");
+    if (argc == 4 && strcmp(argv[1], "moving") == 0)
+        return move_once(argv[2], argv[3]);
+    fprintf(stderr, "usage: compare ROUNDS | days FOLDER | time FILE ROUNDS | answer FUNCTION DAY | moving FUNCTION STATE\n");
     return 2;
 }

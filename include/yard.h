@@ -150,6 +150,11 @@ uint64_t yard_myopic(const uint8_t *text, size_t text_length, uint64_t *numbers,
  *   - the number of closed slots (closed);
  *   - the plan (row, row_length): the slot of each train, in the order of the day file, one byte each.
  *
+ * The row goes by the order of the day file, and positions move when a train is added or cancelled: the train numbers stand first in the
+ * lines 4 to 3 + n of the text. A state that was stored and read again is checked by the next call; yard_close tells alone: 0 or 20 where
+ * it can be gone on with, and with 8 yard_value says what is wrong with the row (where that gives 0, too many slots are closed). A stored day
+ * file that broke off after a row of boxes is a day file too, of a day with fewer boxes: store its length, or write it whole or not at all.
+ *
  * A train is served when its planned slot is closed. yard_begin gives the first plan, with no slot closed. yard_close closes the first open
  * slot: the trains planned in it are served, and the plan stays. yard_cancel, yard_add and yard_set_boxes change the day and plan it anew:
  * served trains keep their slots, and all others get open ones. The new plan is the best of all allowed rows that do so, in the order
@@ -175,7 +180,8 @@ uint64_t yard_myopic(const uint8_t *text, size_t text_length, uint64_t *numbers,
  *      8  more slots are closed than the day has, row_length isn't the number of trains, or the row is not allowed (slots outside their
  *         windows, a slot with more trains than tracks, a parted group). The row need not be the best one.
  *     10  a work area is too short
- *      3  a train number outside 1..99999; the first or last slot of an added train outside 1..T; more than 255 boxes
+ *      3  a train number outside 1..99999; the first or last slot of an added train outside 1..T; more than 255 boxes. (Where 3, 5 or 6 come
+ *         from the text, numbers[0] is the line, which is never 0; from here on it is 0.)
  *     18  a train that is not listed; to be cancelled, also one that is served or is the only one of the day
  *     19  a train to be added that is listed already, or the day has YARD_MOST_TRAINS trains
  *     20  no slot is open that could be closed

@@ -10,3 +10,4 @@ pub mod Replanned
 pub mod Undone
 pub mod Refusals
 pub mod ByNumber
+pub mod Memory

@@ -37,7 +37,7 @@ OfPlanning k carries = ((k ≡ 9) × ((a b n : ℕ) × (carries ≡ a ∷ b ∷ 
 abbrev pub AmongOrPlanning : List ℕ → ℕ → List ℕ → Type 0
 AmongOrPlanning ns k carries = Among ns k carries ⊎ OfPlanning k carries
 
-plan-only : (y : Yard) → Only OfPlanning (bestPlan y)
+pub plan-only : (y : Yard) → Only OfPlanning (bestPlan y)
 plan-only y = go (bestOf y)
   where
     row : (w : Option Interval) → Only {X = List ℕ} OfPlanning (noRow y w)

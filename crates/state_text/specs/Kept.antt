@@ -1,7 +1,8 @@
 -- A state that is kept: what is written of it, read again, is the same state. So a program that stops can go on with the bytes that it has.
 --   kept-again     the day file, the closed slots and the plan of a sound state are kept as that state;
 --   kept-only      what is kept as a state has the day of its text, the closed slots that were given, and the row as its plan;
---   written-again  the first bytes of lent output, as many as the numbers say, are kept as the state that was given.
+--   written-again  the first bytes of lent output, as many as the numbers say, are kept as the state that was given;
+--   told-given, told-one, told-three, told-none, day-beyond, plan-beyond, refused-stays   what the header says of numbers and lent output.
 -- Assumes nothing.
 use mathlib.Core.Path.{_≡_, refl, sym, ap, ap₂, _∙_, subst}
 use mathlib.Core.List.{List, [], _∷_, _++_}
@@ -9,11 +10,11 @@ use Prim.Native.Nat.{ℕ, _≤_, _<_}
 use native.Mathlib.Omega.{arith}
 use lib.Dec.{T, eqb, eqb→eq}
 use lib.ListN.{length, take, drop}
-use lib.Seq.{take-append-seam, length-take-le}
-use borrow.Author.Tests.{eq-eqb}
+use lib.Seq.{take-append-seam, drop-append-seam, length-take-le}
+use borrow.Author.Tests.{eq-eqb, le-leb, lt-leb}
 use Rattle.fold.specs.Column.{column, column-at, column-ext, is-column}
 use Rattle.model.specs.Model.{slotOf}
-use Rattle.day.specs.Answer.{gives, must, checked}
+use Rattle.day.specs.Answer.{Answer, gives, refuses, must, checked}
 use Rattle.day.specs.AnswerLaws.{gives-same, checked-gives, given-before}
 use Rattle.day.specs.SoundLaws.{sound-is}
 use Rattle.day.specs.declared.Limits.{Limits}
@@ -22,7 +23,7 @@ use Rattle.dayfile.specs.Writing.{dayText, Short}
 use Rattle.dayfile.specs.RoundTrip.{write-read}
 use Rattle.rolling.specs.Rolling.{State, planOf, stateSound}
 use Rattle.rolling.specs.States.{sound-state, plan-at}
-use Rattle.state_text.specs.StateText.{stateWith, keptState, dayAfter, planAfter}
+use Rattle.state_text.specs.StateText.{stateWith, keptState, stateNumbers, dayAfter, planAfter}
 
 module _ (l : Limits) (short : Short l) (s : State) (t : T (stateSound l s)) where
   -- the plan has a slot for each train
@@ -73,3 +74,35 @@ kept-only l text closed row s e =
       long = long;
       slots = λ i a b. column-at (y .width) (y .trains) (slotOf row) i b (omega arith);
     })
+
+-- ---- the header's words: four numbers, or what the refusal carries and then zeros; those beyond stay. Lent output: the bytes that the numbers
+-- say, and those beyond stay, after a refusal all
+
+module _ (l : Limits) (before : List ℕ) (room : 4 ≤ length before) where
+  pub told-given : (s : State) → stateNumbers l (gives s) before ≡ s .closed ∷ s .day .trains ∷ length (dayText l (s .day)) ∷ 0 ∷ drop 4 before
+  unfolding stateNumbers
+  told-given s = rw (le-leb 4 (length before) room)
+
+  pub told-one : (k value : ℕ) → stateNumbers l (refuses k (value ∷ [])) before ≡ value ∷ 0 ∷ 0 ∷ 0 ∷ drop 4 before
+  unfolding stateNumbers
+  told-one k value = rw (le-leb 4 (length before) room)
+
+  pub told-three : (k a b c : ℕ) → stateNumbers l (refuses k (a ∷ b ∷ c ∷ [])) before ≡ a ∷ b ∷ c ∷ 0 ∷ drop 4 before
+  unfolding stateNumbers
+  told-three k a b c = rw (le-leb 4 (length before) room)
+
+pub told-none : (l : Limits) (a : Answer State) (before : List ℕ) → length before < 4 → stateNumbers l a before ≡ before
+unfolding stateNumbers
+told-none l a before short = rw (lt-leb 4 (length before) short)
+
+module _ (l : Limits) (out : List ℕ) where
+  pub day-beyond : (s : State) → (take (length (dayText l (s .day))) (dayAfter l (gives s) out) ≡ dayText l (s .day)) × (drop (length (dayText l (s .day))) (dayAfter l (gives s) out) ≡ drop (length (dayText l (s .day))) out)
+  day-beyond s =
+      let text = dayText l (s .day) in
+      (take-append-seam text (drop (length text) out), drop-append-seam text (drop (length text) out))
+
+  pub plan-beyond : (s : State) → (take (length (planOf s)) (planAfter (gives s) out) ≡ planOf s) × (drop (length (planOf s)) (planAfter (gives s) out) ≡ drop (length (planOf s)) out)
+  plan-beyond s = (take-append-seam (planOf s) (drop (length (planOf s)) out), drop-append-seam (planOf s) (drop (length (planOf s)) out))
+
+  pub refused-stays : (k : ℕ) (carries : List ℕ) → (dayAfter l (refuses k carries) out ≡ out) × (planAfter (refuses k carries) out ≡ out)
+  refused-stays k carries = (refl, refl)
