@@ -1,13 +1,14 @@
 -- What a change leaves of each train, said by train numbers and not by positions, as a yard knows its trains:
---   cancel-leaves   the train is no longer listed; every other one is, with its window, its group, its served slot, and its boxes from and to
+--   cancel-same, cancel-boxes, cancel-listed-before   the train is no longer listed; every other one is, with its window, its group, its served slot, and its boxes from and to
 --                   every other one; no number is new;
---   add-leaves      the train is listed with its window, in no group, not served, without boxes; the others as before; no other number is new;
---   boxes-leave     the pair has its boxes; every other pair and every train is as before.
+--   add-new, add-same, add-boxes, add-listed-before   the train is listed with its window, in no group, not served, without boxes; the others as before; no other number is new;
+--   boxes-there, boxes-others, boxes-same   the pair has its boxes; every other pair and every train is as before;
+--   listed-exactly  a number is listed where a train of the day has it.
 -- Assumes nothing.
 use mathlib.Core.Path.{_≡_, refl, sym, ap, ap₂, _∙_, subst}
 use mathlib.Core.Bool.{not, _&&_}
 use mathlib.Core.List.{List}
-use mathlib.Core.Logic.{_⊎_, inl, inr, ⊎-elim, _≢_}
+use mathlib.Core.Logic.{_⊎_, inl, inr, ⊎-elim, _≢_, _↔_}
 use Prim.Native.Nat.{ℕ, suc, _-_, _≤_, _<_}
 use native.Mathlib.Omega.{arith}
 use lib.Dec.{T, ltb, leb, eqb, leb→le, lt→ltb, eqb→eq}
@@ -67,6 +68,10 @@ module _ {l : Limits} {y : Yard} (s : SoundDay l y) (i : ℕ) (there : i < y .tr
       let e = stands-at in
       both (ltb (placeOf y (numberAt y i)) (y .trains)) (eqb (numberAt y (placeOf y (numberAt y i))) (numberAt y i)) (lt→ltb _ _ (subst (λ k. k < y .trains) (sym e) there))
       (of-true (eq-eqb _ _ (ap (numberAt y) e)))
+
+-- a number is listed exactly where a train has it
+pub listed-exactly : {l : Limits} {y : Yard} → SoundDay l y → (x : ℕ) → T (isListed y x) ↔ ((i : ℕ) × (i < y .trains) × (numberAt y i ≡ x))
+listed-exactly {l} {y} s x = (λ t. let (there, e) = listed-there y x t in (placeOf y x, there, e), λ w. subst (λ k. T (isListed y k)) (w .2) (listed-at-place s (w .0) (w .1)))
 
 -- positions of equal numbers are equal
 pub same-position : {l : Limits} {y : Yard} → SoundDay l y → (i j : ℕ) → i < y .trains → j < y .trains → numberAt y i ≡ numberAt y j → i ≡ j
