@@ -165,17 +165,6 @@ eleven = yardOf 11 12 1 1 1 (listed 11 suc) (replicate 11 1) (replicate 11 1) []
 abbrev pub twelve : Yard
 twelve = yardOf 12 12 1 1 1 (listed 12 suc) (replicate 12 1) (replicate 12 1) [] []
 
--- ---- days that are refused as they begin
-
-abbrev pub crowded : Yard
-crowded = yardOf 3 1 2 1 1 (1 ∷ 2 ∷ 3 ∷ []) (1 ∷ 1 ∷ 1 ∷ []) (2 ∷ 2 ∷ 2 ∷ []) (4 ∷ 0 ∷ 4 ∷ []) []
-
-abbrev pub unmatched : Yard
-unmatched = yardOf 2 2 2 1 1 (1 ∷ 2 ∷ []) (1 ∷ 2 ∷ []) (1 ∷ 2 ∷ []) (1 ∷ 1 ∷ []) []
-
-abbrev pub heavy : Yard
-heavy = yardOf 1 1 2 65536 1 (10 ∷ []) (1 ∷ []) (2 ∷ []) [] []
-
 -- ---- a group that loses its members
 
 abbrev pub trio : Yard
@@ -258,6 +247,17 @@ abbrev pub pairsTo20 : Yard
 pairsTo20 =
     yardOf 4 2 2 1 1 (10 ∷ 20 ∷ 30 ∷ 40 ∷ []) (1 ∷ 1 ∷ 1 ∷ 1 ∷ []) (2 ∷ 2 ∷ 2 ∷ 2 ∷ []) []
     ((0 ∷ 5 ∷ 50 ∷ 0 ∷ []) ∷ (3 ∷ 0 ∷ 0 ∷ 0 ∷ []) ∷ (0 ∷ 0 ∷ 0 ∷ 7 ∷ []) ∷ (0 ∷ 0 ∷ 9 ∷ 0 ∷ []) ∷ [])
+
+-- ---- days that are refused as they begin
+
+abbrev pub crowded : Yard
+crowded = yardOf 3 1 2 1 1 (1 ∷ 2 ∷ 3 ∷ []) (1 ∷ 1 ∷ 1 ∷ []) (2 ∷ 2 ∷ 2 ∷ []) (4 ∷ 0 ∷ 4 ∷ []) []
+
+abbrev pub unmatched : Yard
+unmatched = yardOf 2 2 2 1 1 (1 ∷ 2 ∷ []) (1 ∷ 2 ∷ []) (1 ∷ 2 ∷ []) (1 ∷ 1 ∷ []) []
+
+abbrev pub heavy : Yard
+heavy = yardOf 1 1 2 65536 1 (10 ∷ []) (1 ∷ []) (2 ∷ []) [] []
 
 -- ---- for states made by hand: a day with a window of one slot and a group
 

@@ -1,3 +1,4 @@
 pub mod Days
 pub mod Lines
+pub mod Calls
 pub mod Table

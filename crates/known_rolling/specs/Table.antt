@@ -22,165 +22,30 @@ use Rattle.model.specs.BestOf.{bestOf}
 use Rattle.model.specs.Overbooked.{firstOverbooked, overbookedFrom, overbookedFirst, overbookedLast}
 use Rattle.day.specs.Answer.{gives, refuses}
 use Rattle.day.specs.Sound.{within, headRanges, trainRanges, shaped, sound, numberBefore, trainSound, unused, positionSound, groupSound, pairSound, receiverSound}
-use Rattle.rolling.specs.Rolling.{placeOf, isListed, sourceWithout, sourceWith, cutFirst, cutLast, cancel, add, setBoxes, close, change, stateSound, stateAfter, begun}
+use Rattle.rolling.specs.Rolling.{placeOf, isListed, sourceWithout, sourceWith, cutFirst, cutLast, cancel, add, setBoxes, close, stateSound, stateAfter, begun}
 use Rattle.known_days.specs.Days.{padded}
 use Rattle.known_days.specs.Lines.{sameAnswer}
 use Rattle.known_rolling.specs.Lines.{standing, asked, says, Line, begins, rolls, answers, Holds, sameHead, sameColumns, sameState, allAnswer, passes, line-holds}
-use Rattle.known_rolling.specs.Days.{narrow, joint, jointWith25, convoy, convoyWith25}
-use Rattle.known_rolling.specs.Days.{busy, busyWith25, busyTo25, busyFrom25, busyWithout30, busyTo10, busyWith35, busyTo35, busyTo20}
-use Rattle.known_rolling.specs.Days.{plain, plainWith1, plainFor1, plainWithoutLast, plainWithLast, plainFull, plainWith6, plainWith7, plainServed, solo, soloWith20, solo20, soloWith30, solo30, eleven, twelve}
-use Rattle.known_rolling.specs.Days.{crowded, unmatched, heavy}
-use Rattle.known_rolling.specs.Days.{trio, trioWithout30, trioOne, trioWith20, trioAgain}
-use Rattle.known_rolling.specs.Days.{even, evenWith20, even20, evenWith40, level, levelWithout20, levelWith15, levelWith12, levelWithout10}
-use Rattle.known_rolling.specs.Days.{pairs, pairsAcross, pairsTo30, pairsTo40, pairsTo20}
-use Rattle.known_rolling.specs.Days.{strict}
-use Rattle.known_rolling.specs.Days.{badNumbers, badWindow, badGroup, badBoxes, pastGroup, pastBoxes, thirteen}
-use Rattle.known_rolling.specs.Days.{paper, paperWide, paperWithout3, paperWith5, paperWithout2, paperNew2, paperNoTo1, paperTo4}
+use Rattle.known_rolling.specs.Days.{narrow, joint, convoy, busy, plain, solo, eleven, trio, even, level, pairs, crowded, unmatched, heavy, strict}
+use Rattle.known_rolling.specs.Days.{badNumbers, badWindow, badGroup, badBoxes, pastGroup, pastBoxes, thirteen, paper, paperWide, paperWithout3}
+use Rattle.known_rolling.specs.Calls.{narrowCalls, jointCalls, convoyCalls, busyCalls, plainCalls, soloCalls, elevenCalls, trioCalls, evenCalls, levelCalls, pairsCalls, heavyCalls, partedCalls, pastCalls, paperCalls, oneClosedCalls, twoClosedCalls, allClosedCalls}
 
 -- ---- the table
 
 unfoldable pub table : List Line
 table =
-    -- the stretch of 9 may begin in closed slots, and counts the added train: 1..3 with 4, where the open slots alone have 2..3 with 3. 5 before 9.
-    -- The day goes on as before
-    rolls narrow (1 ∷ 3 ∷ 2 ∷ [])
-        (says (asked (add 25 2 3)) (refuses 9 (1 ∷ 3 ∷ 4 ∷ []))
-        ∷ says close (gives (standing narrow 1 (1 ∷ 3 ∷ 2 ∷ [])))
-        ∷ says (asked (add 25 1 3)) (refuses 5 (0 ∷ []))
-        ∷ says (asked (add 25 3 2)) (refuses 5 (0 ∷ []))
-        ∷ says (asked (add 25 2 3)) (refuses 9 (1 ∷ 3 ∷ 4 ∷ []))
-        ∷ says close (gives (standing narrow 2 (1 ∷ 3 ∷ 2 ∷ [])))
-        ∷ [])
-    -- windows are cut to the open slots: while slot 1 is open 30 moves to the track that is free there, and then no longer
-    ∷ rolls joint (1 ∷ 2 ∷ 2 ∷ [])
-        (says (asked (add 25 2 2)) (gives (standing jointWith25 0 (1 ∷ 2 ∷ 2 ∷ 1 ∷ [])))
-        ∷ says (asked (cancel 25)) (gives (standing joint 0 (1 ∷ 2 ∷ 2 ∷ [])))
-        ∷ says close (gives (standing joint 1 (1 ∷ 2 ∷ 2 ∷ [])))
-        ∷ says (asked (add 25 2 2)) (refuses 9 (2 ∷ 2 ∷ 3 ∷ []))
-        ∷ [])
-    -- 16, where no stretch is overbooked and the group has no slot of its own, with all slots open and with one closed; and 9 all the same, where one is
-    ∷ rolls convoy (2 ∷ 3 ∷ 3 ∷ [])
-        (says (asked (add 25 3 3)) (refuses 16 (0 ∷ []))
-        ∷ says close (gives (standing convoy 1 (2 ∷ 3 ∷ 3 ∷ [])))
-        ∷ says (asked (add 25 3 3)) (refuses 16 (0 ∷ []))
-        ∷ says (asked (add 25 2 3)) (gives (standing convoyWith25 1 (2 ∷ 3 ∷ 2 ∷ 3 ∷ [])))
-        ∷ says (asked (add 26 2 3)) (refuses 9 (2 ∷ 3 ∷ 5 ∷ []))
-        ∷ [])
-    -- thirteen calls on one day: trains added in the middle, boxes set both ways between two trains, to a waiting train from a served one, trains
-    -- cancelled from the middle, slots closed in between. 10 keeps its group where 30 has left it. 20 moves three times with changes that do not
-    -- name it, where the old plan is still allowed; stored windows are never cut
-    ∷ rolls busy (1 ∷ 2 ∷ 1 ∷ 2 ∷ [])
-        (says (asked (add 25 1 3)) (gives (standing busyWith25 0 (1 ∷ 2 ∷ 3 ∷ 1 ∷ 2 ∷ [])))
-        ∷ says (asked (setBoxes 25 40 98)) (gives (standing busyTo25 0 (2 ∷ 3 ∷ 1 ∷ 2 ∷ 1 ∷ [])))
-        ∷ says (asked (setBoxes 40 25 72)) (gives (standing busyFrom25 0 (2 ∷ 3 ∷ 1 ∷ 2 ∷ 1 ∷ [])))
-        ∷ says close (gives (standing busyFrom25 1 (2 ∷ 3 ∷ 1 ∷ 2 ∷ 1 ∷ [])))
-        ∷ says (asked (cancel 30)) (gives (standing busyWithout30 1 (2 ∷ 2 ∷ 1 ∷ 1 ∷ [])))
-        ∷ says (asked (setBoxes 10 40 73)) (gives (standing busyTo10 1 (2 ∷ 2 ∷ 1 ∷ 1 ∷ [])))
-        ∷ says (asked (add 35 2 3)) (gives (standing busyWith35 1 (2 ∷ 2 ∷ 1 ∷ 3 ∷ 1 ∷ [])))
-        ∷ says (asked (setBoxes 35 10 67)) (gives (standing busyTo35 1 (2 ∷ 3 ∷ 1 ∷ 2 ∷ 1 ∷ [])))
-        ∷ says (asked (setBoxes 20 35 89)) (gives (standing busyTo20 1 (2 ∷ 3 ∷ 1 ∷ 3 ∷ 1 ∷ [])))
-        ∷ says close (gives (standing busyTo20 2 (2 ∷ 3 ∷ 1 ∷ 3 ∷ 1 ∷ [])))
-        ∷ says (asked (cancel 35)) (gives (standing busyTo10 2 (2 ∷ 3 ∷ 1 ∷ 1 ∷ [])))
-        ∷ says close (gives (standing busyTo10 3 (2 ∷ 3 ∷ 1 ∷ 1 ∷ [])))
-        ∷ says close (refuses 20 (0 ∷ []))
-        ∷ [])
-    -- the refusals of the calls, each leaving the state as before, and the edges of the limits. 10 before 3, 18 and 19; 3 before 18, 19, 5 and 6;
-    -- 19 before 5; 18 before 6
-    ∷ rolls plain (2 ∷ 1 ∷ 1 ∷ [])
-        -- one word less than 4,096 or 32,768
-        (says (change (cancel 700) 4095 32768) (refuses 10 (0 ∷ []))
-        ∷ says (change (cancel 700) 4096 32767) (refuses 10 (0 ∷ []))
-        ∷ says (change (add 6 1 1) 4095 32768) (refuses 10 (0 ∷ []))
-        ∷ says (change (add 6 1 1) 4096 32767) (refuses 10 (0 ∷ []))
-        ∷ says (change (setBoxes 5 700 1) 4095 32768) (refuses 10 (0 ∷ []))
-        ∷ says (change (setBoxes 5 700 1) 4096 32767) (refuses 10 (0 ∷ []))
-        ∷ says (change (cancel 0) 4095 32768) (refuses 10 (0 ∷ []))
-        ∷ says (change (add 0 0 0) 0 40000) (refuses 10 (0 ∷ []))
-        ∷ says (change (setBoxes 0 0 256) 40000 0) (refuses 10 (0 ∷ []))
-        ∷ says (change (cancel 6) 4095 32768) (refuses 10 (0 ∷ []))
-        ∷ says (change (add 700 3 2) 4095 32768) (refuses 10 (0 ∷ []))
-        ∷ says (change (setBoxes 5 5 1) 4095 32768) (refuses 10 (0 ∷ []))
-        -- cancel: the number outside its limits, not listed
-        ∷ says (asked (cancel 0)) (refuses 3 (0 ∷ []))
-        ∷ says (asked (cancel 100000)) (refuses 3 (0 ∷ []))
-        ∷ says (asked (cancel 6)) (refuses 18 (0 ∷ []))
-        ∷ says (asked (cancel 99998)) (refuses 18 (0 ∷ []))
-        -- add: number, first, last outside; listed; first above last
-        ∷ says (asked (add 0 1 1)) (refuses 3 (0 ∷ []))
-        ∷ says (asked (add 100000 1 1)) (refuses 3 (0 ∷ []))
-        ∷ says (asked (add 6 0 1)) (refuses 3 (0 ∷ []))
-        ∷ says (asked (add 6 4 3)) (refuses 3 (0 ∷ []))
-        ∷ says (asked (add 6 1 0)) (refuses 3 (0 ∷ []))
-        ∷ says (asked (add 6 1 4)) (refuses 3 (0 ∷ []))
-        ∷ says (asked (add 700 2 3)) (refuses 19 (0 ∷ []))
-        ∷ says (asked (add 6 3 2)) (refuses 5 (0 ∷ []))
-        ∷ says (asked (add 700 0 1)) (refuses 3 (0 ∷ []))
-        ∷ says (asked (add 700 3 2)) (refuses 19 (0 ∷ []))
-        ∷ says (asked (add 6 3 0)) (refuses 3 (0 ∷ []))
-        -- set boxes: to, from, boxes outside; not listed; to and from the same
-        ∷ says (asked (setBoxes 0 5 1)) (refuses 3 (0 ∷ []))
-        ∷ says (asked (setBoxes 100000 5 1)) (refuses 3 (0 ∷ []))
-        ∷ says (asked (setBoxes 5 0 1)) (refuses 3 (0 ∷ []))
-        ∷ says (asked (setBoxes 5 100000 1)) (refuses 3 (0 ∷ []))
-        ∷ says (asked (setBoxes 5 700 256)) (refuses 3 (0 ∷ []))
-        ∷ says (asked (setBoxes 6 5 1)) (refuses 18 (0 ∷ []))
-        ∷ says (asked (setBoxes 5 6 1)) (refuses 18 (0 ∷ []))
-        ∷ says (asked (setBoxes 5 5 1)) (refuses 6 (0 ∷ []))
-        ∷ says (asked (setBoxes 6 5 256)) (refuses 3 (0 ∷ []))
-        ∷ says (asked (setBoxes 6 6 1)) (refuses 18 (0 ∷ []))
-        ∷ says (asked (setBoxes 5 5 256)) (refuses 3 (0 ∷ []))
-        -- the least and the greatest number, and more words than are needed; boxes up to 255 and down to 0; the day as it was
-        ∷ says (change (add 1 1 3) 5000 40000) (gives (standing plainWith1 0 (2 ∷ 2 ∷ 1 ∷ 1 ∷ [])))
-        ∷ says (asked (cancel 99999)) (gives (standing plainFor1 0 (2 ∷ 1 ∷ 1 ∷ [])))
-        ∷ says (asked (cancel 1)) (gives (standing plainWithoutLast 0 (1 ∷ 1 ∷ [])))
-        ∷ says (asked (add 99999 1 3)) (gives (standing plainWithLast 0 (1 ∷ 1 ∷ 2 ∷ [])))
-        ∷ says (asked (setBoxes 99999 700 255)) (gives (standing plainFull 0 (2 ∷ 1 ∷ 1 ∷ [])))
-        ∷ says (asked (setBoxes 99999 700 0)) (gives (standing plainWithLast 0 (1 ∷ 1 ∷ 2 ∷ [])))
-        ∷ says (asked (setBoxes 99999 700 5)) (gives (standing plain 0 (2 ∷ 1 ∷ 1 ∷ [])))
-        -- a served train cannot be cancelled; a first slot may not be closed, the first open one may be first
-        ∷ says close (gives (standing plain 1 (2 ∷ 1 ∷ 1 ∷ [])))
-        ∷ says (asked (cancel 700)) (refuses 18 (0 ∷ []))
-        ∷ says (asked (add 6 1 3)) (refuses 5 (0 ∷ []))
-        ∷ says (asked (add 700 1 3)) (refuses 19 (0 ∷ []))
-        ∷ says (asked (add 6 2 3)) (gives (standing plainWith6 1 (2 ∷ 2 ∷ 1 ∷ 1 ∷ [])))
-        ∷ says close (gives (standing plainWith6 2 (2 ∷ 2 ∷ 1 ∷ 1 ∷ [])))
-        ∷ says (asked (cancel 5)) (refuses 18 (0 ∷ []))
-        ∷ says (asked (cancel 700)) (refuses 18 (0 ∷ []))
-        ∷ says (asked (add 7 2 3)) (refuses 5 (0 ∷ []))
-        ∷ says (asked (add 7 3 3)) (gives (standing plainWith7 2 (2 ∷ 2 ∷ 3 ∷ 1 ∷ 1 ∷ [])))
-        ∷ says (asked (cancel 7)) (gives (standing plainWith6 2 (2 ∷ 2 ∷ 1 ∷ 1 ∷ [])))
-        -- all slots closed
-        ∷ says close (gives (standing plainWith6 3 (2 ∷ 2 ∷ 1 ∷ 1 ∷ [])))
-        ∷ says close (refuses 20 (0 ∷ []))
-        ∷ says (asked (add 8 3 3)) (refuses 5 (0 ∷ []))
-        ∷ says (asked (add 6 3 3)) (refuses 19 (0 ∷ []))
-        ∷ says (asked (add 8 0 3)) (refuses 3 (0 ∷ []))
-        ∷ says (asked (cancel 6)) (refuses 18 (0 ∷ []))
-        ∷ says (asked (cancel 8)) (refuses 18 (0 ∷ []))
-        ∷ says (asked (setBoxes 99999 5 9)) (gives (standing plainServed 3 (2 ∷ 2 ∷ 1 ∷ 1 ∷ [])))
-        ∷ says (asked (setBoxes 5 5 9)) (refuses 6 (0 ∷ []))
-        ∷ says (asked (setBoxes 5 8 9)) (refuses 18 (0 ∷ []))
-        ∷ [])
-    -- the only train cannot be cancelled, one of two can, also the only one that waits
-    ∷ rolls solo (1 ∷ [])
-        (says (asked (cancel 10)) (refuses 18 (0 ∷ []))
-        ∷ says (asked (add 20 1 2)) (gives (standing soloWith20 0 (2 ∷ 1 ∷ [])))
-        ∷ says (asked (cancel 10)) (gives (standing solo20 0 (1 ∷ [])))
-        ∷ says (asked (cancel 20)) (refuses 18 (0 ∷ []))
-        ∷ says (asked (add 30 1 2)) (gives (standing soloWith30 0 (2 ∷ 1 ∷ [])))
-        ∷ says close (gives (standing soloWith30 1 (2 ∷ 1 ∷ [])))
-        ∷ says (asked (cancel 20)) (gives (standing solo30 1 (1 ∷ [])))
-        ∷ says (asked (cancel 30)) (refuses 18 (0 ∷ []))
-        ∷ says (asked (cancel 20)) (refuses 18 (0 ∷ []))
-        ∷ [])
-    -- a twelfth train and a thirteenth; 3 before 19 and 19 before 5, where the number is new
-    ∷ rolls eleven (replicate 11 1)
-        (says (asked (add 12 1 1)) (gives (standing twelve 0 (replicate 12 1)))
-        ∷ says (asked (add 13 1 1)) (refuses 19 (0 ∷ []))
-        ∷ says (asked (add 13 2 1)) (refuses 3 (0 ∷ []))
-        ∷ says close (gives (standing twelve 1 (replicate 12 1)))
-        ∷ says (asked (add 13 1 1)) (refuses 19 (0 ∷ []))
-        ∷ [])
+    -- lists of calls after a begin; Calls.antt says what each is about
+    rolls narrow (1 ∷ 3 ∷ 2 ∷ []) narrowCalls
+    ∷ rolls joint (1 ∷ 2 ∷ 2 ∷ []) jointCalls
+    ∷ rolls convoy (2 ∷ 3 ∷ 3 ∷ []) convoyCalls
+    ∷ rolls busy (1 ∷ 2 ∷ 1 ∷ 2 ∷ []) busyCalls
+    ∷ rolls plain (2 ∷ 1 ∷ 1 ∷ []) plainCalls
+    ∷ rolls solo (1 ∷ []) soloCalls
+    ∷ rolls eleven (replicate 11 1) elevenCalls
+    ∷ rolls trio (1 ∷ 2 ∷ 2 ∷ 2 ∷ []) trioCalls
+    ∷ rolls even (2 ∷ 1 ∷ []) evenCalls
+    ∷ rolls level (2 ∷ 2 ∷ 1 ∷ 1 ∷ []) levelCalls
+    ∷ rolls pairs (2 ∷ 2 ∷ 1 ∷ 1 ∷ []) pairsCalls
     -- begin: 8, 10, then 9 or 16. Its areas are those of a changing day too, and longer ones suffice
     ∷ begins heavy 4096 32768 (refuses 8 (0 ∷ []))
     ∷ begins heavy 0 0 (refuses 8 (0 ∷ []))
@@ -193,48 +58,6 @@ table =
     ∷ begins solo 4096 32767 (refuses 10 (0 ∷ []))
     ∷ begins solo 2 4 (refuses 10 (0 ∷ []))
     ∷ begins solo 5000 40000 (gives (standing solo 0 (1 ∷ [])))
-    -- a group cancelled down to one: the last member keeps its number and is bound no more. A train that comes back is in no group and has no
-    -- boxes
-    ∷ rolls trio (1 ∷ 2 ∷ 2 ∷ 2 ∷ [])
-        (says (asked (cancel 30)) (gives (standing trioWithout30 0 (1 ∷ 1 ∷ 1 ∷ [])))
-        ∷ says (asked (cancel 20)) (gives (standing trioOne 0 (1 ∷ 1 ∷ [])))
-        ∷ says (asked (add 20 1 3)) (gives (standing trioWith20 0 (1 ∷ 1 ∷ 1 ∷ [])))
-        ∷ says (asked (add 30 2 3)) (gives (standing trioAgain 0 (1 ∷ 1 ∷ 2 ∷ 1 ∷ [])))
-        ∷ [])
-    -- ties are decided by the set numbers of the new positions: after an add in the middle, at the end and at the front, after a cancel of the
-    -- middle, the first and the last
-    ∷ rolls even (2 ∷ 1 ∷ [])
-        (says (asked (add 20 1 3)) (gives (standing evenWith20 0 (3 ∷ 2 ∷ 1 ∷ [])))
-        ∷ says (asked (cancel 20)) (gives (standing even 0 (2 ∷ 1 ∷ [])))
-        ∷ says (asked (add 20 1 3)) (gives (standing evenWith20 0 (3 ∷ 2 ∷ 1 ∷ [])))
-        ∷ says (asked (cancel 10)) (gives (standing even20 0 (2 ∷ 1 ∷ [])))
-        ∷ says (asked (add 40 1 3)) (gives (standing evenWith40 0 (3 ∷ 2 ∷ 1 ∷ [])))
-        ∷ says (asked (cancel 40)) (gives (standing even20 0 (2 ∷ 1 ∷ [])))
-        ∷ says (asked (add 10 1 3)) (gives (standing evenWith20 0 (3 ∷ 2 ∷ 1 ∷ [])))
-        ∷ says close (gives (standing evenWith20 1 (3 ∷ 2 ∷ 1 ∷ [])))
-        ∷ says (asked (add 15 2 3)) (refuses 9 (1 ∷ 3 ∷ 4 ∷ []))
-        ∷ [])
-    -- the same among waiting trains, beside served ones at positions that move
-    ∷ rolls level (2 ∷ 2 ∷ 1 ∷ 1 ∷ [])
-        (says close (gives (standing level 1 (2 ∷ 2 ∷ 1 ∷ 1 ∷ [])))
-        ∷ says (asked (cancel 20)) (gives (standing levelWithout20 1 (2 ∷ 1 ∷ 1 ∷ [])))
-        ∷ says (asked (add 15 2 3)) (gives (standing levelWith15 1 (2 ∷ 2 ∷ 1 ∷ 1 ∷ [])))
-        ∷ says (asked (add 12 2 3)) (gives (standing levelWith12 1 (3 ∷ 2 ∷ 2 ∷ 1 ∷ 1 ∷ [])))
-        ∷ says (asked (cancel 10)) (gives (standing levelWithout10 1 (2 ∷ 2 ∷ 1 ∷ 1 ∷ [])))
-        ∷ [])
-    -- while all slots are open a change moves 20 too, which it does not name, though the old plan is still allowed; once slot 1 is closed its trains
-    -- stay, though that other plan would be cheaper. Boxes between served trains may be set, also to the number that they have
-    ∷ rolls pairs (2 ∷ 2 ∷ 1 ∷ 1 ∷ [])
-        (says (asked (setBoxes 10 30 50)) (gives (standing pairsAcross 0 (2 ∷ 1 ∷ 2 ∷ 1 ∷ [])))
-        ∷ says (asked (setBoxes 10 30 0)) (gives (standing pairs 0 (2 ∷ 2 ∷ 1 ∷ 1 ∷ [])))
-        ∷ says close (gives (standing pairs 1 (2 ∷ 2 ∷ 1 ∷ 1 ∷ [])))
-        ∷ says (asked (setBoxes 10 30 50)) (gives (standing pairsAcross 1 (2 ∷ 2 ∷ 1 ∷ 1 ∷ [])))
-        ∷ says (asked (setBoxes 30 40 7)) (gives (standing pairsTo30 1 (2 ∷ 2 ∷ 1 ∷ 1 ∷ [])))
-        ∷ says (asked (setBoxes 40 30 9)) (gives (standing pairsTo40 1 (2 ∷ 2 ∷ 1 ∷ 1 ∷ [])))
-        ∷ says (asked (setBoxes 40 30 9)) (gives (standing pairsTo40 1 (2 ∷ 2 ∷ 1 ∷ 1 ∷ [])))
-        ∷ says close (gives (standing pairsTo40 2 (2 ∷ 2 ∷ 1 ∷ 1 ∷ [])))
-        ∷ says (asked (setBoxes 20 10 3)) (gives (standing pairsTo20 2 (2 ∷ 2 ∷ 1 ∷ 1 ∷ [])))
-        ∷ [])
     -- 8, the plan: a slot outside its window on either side, a train without a slot, a slot with too many, a group parted. Then a slot past the
     -- trains that is not 0, the next and the last one, and a row that has not twelve
     ∷ answers (standing strict 0 (2 ∷ 1 ∷ 1 ∷ [])) (says close (refuses 8 (0 ∷ [])) ∷ [])
@@ -261,61 +84,20 @@ table =
     ∷ answers (standing badBoxes 0 (1 ∷ 2 ∷ 2 ∷ [])) (says close (refuses 8 (0 ∷ [])) ∷ [])
     ∷ answers (standing pastGroup 0 (1 ∷ 2 ∷ 2 ∷ [])) (says close (refuses 8 (0 ∷ [])) ∷ [])
     ∷ answers (standing pastBoxes 0 (1 ∷ 2 ∷ 2 ∷ [])) (says close (refuses 8 (0 ∷ [])) ∷ [])
-    -- 8 before 20, 10, 3, 18, 19, 5 and 6, in each call; the state is as before, and is refused again
-    ∷ answers (standing heavy 2 (1 ∷ []))
-        (says close (refuses 8 (0 ∷ []))
-        ∷ says (asked (cancel 10)) (refuses 8 (0 ∷ []))
-        ∷ says (change (cancel 0) 0 0) (refuses 8 (0 ∷ []))
-        ∷ says (asked (add 20 1 2)) (refuses 8 (0 ∷ []))
-        ∷ says (change (add 10 2 1) 0 0) (refuses 8 (0 ∷ []))
-        ∷ says (asked (setBoxes 10 10 256)) (refuses 8 (0 ∷ []))
-        ∷ says (change (setBoxes 10 20 1) 4095 0) (refuses 8 (0 ∷ []))
-        ∷ says close (refuses 8 (0 ∷ []))
-        ∷ [])
-    ∷ answers (standing strict 0 (1 ∷ 2 ∷ 1 ∷ []))
-        (says (asked (cancel 20)) (refuses 8 (0 ∷ []))
-        ∷ says (change (cancel 20) 4095 32768) (refuses 8 (0 ∷ []))
-        ∷ says (asked (add 40 1 2)) (refuses 8 (0 ∷ []))
-        ∷ says (change (add 40 1 2) 4096 32767) (refuses 8 (0 ∷ []))
-        ∷ says (asked (setBoxes 10 20 1)) (refuses 8 (0 ∷ []))
-        ∷ says (change (setBoxes 10 20 1) 0 0) (refuses 8 (0 ∷ []))
-        ∷ says close (refuses 8 (0 ∷ []))
-        ∷ [])
-    ∷ answers (standing strict 0 (1 ∷ 2 ∷ 2 ∷ 1 ∷ []))
-        (says (asked (cancel 20)) (refuses 8 (0 ∷ []))
-        ∷ says (asked (add 40 1 2)) (refuses 8 (0 ∷ []))
-        ∷ says (asked (setBoxes 10 20 1)) (refuses 8 (0 ∷ []))
-        ∷ [])
+    -- 8 before the other checks, in each call
+    ∷ answers (standing heavy 2 (1 ∷ [])) heavyCalls
+    ∷ answers (standing strict 0 (1 ∷ 2 ∷ 1 ∷ [])) partedCalls
+    ∷ answers (standing strict 0 (1 ∷ 2 ∷ 2 ∷ 1 ∷ [])) pastCalls
     -- a plan that is allowed and not the best is taken: close keeps it, a change puts the best one in its place, and boxes set to the number that
     -- they have are a change
-    ∷ answers (standing paper 0 (1 ∷ 1 ∷ 2 ∷ 2 ∷ []))
-        (says close (gives (standing paper 1 (1 ∷ 1 ∷ 2 ∷ 2 ∷ [])))
-        ∷ says (asked (setBoxes 1 4 1)) (gives (standing paper 1 (1 ∷ 1 ∷ 2 ∷ 2 ∷ [])))
-        ∷ says (asked (cancel 2)) (refuses 18 (0 ∷ []))
-        ∷ says close (gives (standing paper 2 (1 ∷ 1 ∷ 2 ∷ 2 ∷ [])))
-        ∷ [])
+    ∷ answers (standing paper 0 (1 ∷ 1 ∷ 2 ∷ 2 ∷ [])) paperCalls
     ∷ answers (standing paper 0 (1 ∷ 1 ∷ 2 ∷ 2 ∷ [])) (says (asked (setBoxes 1 4 1)) (gives (standing paper 0 (2 ∷ 1 ∷ 2 ∷ 1 ∷ []))) ∷ [])
     ∷ answers (standing paper 0 (1 ∷ 1 ∷ 2 ∷ 2 ∷ [])) (says (asked (cancel 3)) (gives (standing paperWithout3 0 (2 ∷ 1 ∷ 1 ∷ []))) ∷ [])
     ∷ answers (standing paper 0 (1 ∷ 1 ∷ 2 ∷ 2 ∷ [])) (says (asked (add 5 1 2)) (refuses 9 (1 ∷ 2 ∷ 5 ∷ [])) ∷ [])
-    -- served trains stay in any closed slot, the first or the last, and the others go to the best of the open ones, not to a track that stayed
-    -- free in a closed one
-    ∷ answers (standing paperWide 1 (1 ∷ 3 ∷ 3 ∷ 2 ∷ []))
-        (says (asked (setBoxes 1 4 1)) (gives (standing paperWide 1 (1 ∷ 2 ∷ 3 ∷ 3 ∷ [])))
-        ∷ says (asked (add 5 2 3)) (gives (standing paperWith5 1 (1 ∷ 2 ∷ 3 ∷ 3 ∷ 2 ∷ [])))
-        ∷ [])
-    ∷ answers (standing paperWide 2 (2 ∷ 3 ∷ 1 ∷ 3 ∷ []))
-        (says (asked (cancel 2)) (gives (standing paperWithout2 2 (2 ∷ 1 ∷ 3 ∷ [])))
-        ∷ says (asked (add 2 3 3)) (gives (standing paperNew2 2 (2 ∷ 3 ∷ 1 ∷ 3 ∷ [])))
-        ∷ says close (gives (standing paperNew2 3 (2 ∷ 3 ∷ 1 ∷ 3 ∷ [])))
-        ∷ says (asked (setBoxes 1 4 0)) (gives (standing paperNoTo1 3 (2 ∷ 3 ∷ 1 ∷ 3 ∷ [])))
-        ∷ says (asked (setBoxes 4 1 8)) (gives (standing paperTo4 3 (2 ∷ 3 ∷ 1 ∷ 3 ∷ [])))
-        ∷ [])
-    ∷ answers (standing paperWide 3 (3 ∷ 1 ∷ 2 ∷ 1 ∷ []))
-        (says (asked (setBoxes 1 4 1)) (gives (standing paperWide 3 (3 ∷ 1 ∷ 2 ∷ 1 ∷ [])))
-        ∷ says (asked (cancel 1)) (refuses 18 (0 ∷ []))
-        ∷ says (asked (add 9 3 3)) (refuses 5 (0 ∷ []))
-        ∷ says close (refuses 20 (0 ∷ []))
-        ∷ [])
+    -- served trains stay in any closed slot, the first or the last, and the others go to the best of the open ones
+    ∷ answers (standing paperWide 1 (1 ∷ 3 ∷ 3 ∷ 2 ∷ [])) oneClosedCalls
+    ∷ answers (standing paperWide 2 (2 ∷ 3 ∷ 1 ∷ 3 ∷ [])) twoClosedCalls
+    ∷ answers (standing paperWide 3 (3 ∷ 1 ∷ 2 ∷ 1 ∷ [])) allClosedCalls
     ∷ []
 
 -- ---- every line holds

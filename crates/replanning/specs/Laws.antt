@@ -1,7 +1,7 @@
 -- Planning what is left of a standing account, from what the planning call says; and the ways out of beginning a day.
 -- Assumes nothing.
-use mathlib.Core.Path.{_≡_, refl, sym, ap, _∙_, subst}
-use mathlib.Core.Bool.{Bool, true, false}
+use mathlib.Core.Path.{_≡_, sym, ap, _∙_}
+use mathlib.Core.Bool.{true, false}
 use mathlib.Core.List.{List, [], _∷_}
 use Prim.Native.Nat.{ℕ}
 use lib.Dec.{T}
@@ -9,11 +9,10 @@ use lib.ListN.{replicate}
 use Rattle.fold.specs.Test.{of-true}
 use Rattle.fold.specs.Column.{column}
 use Rattle.model.specs.Model.{Yard, Outcome, slotOf}
-use Rattle.day.specs.Answer.{Answer, gives, refuses, onGiven, checked, holding}
+use Rattle.day.specs.Answer.{Answer, gives, refuses, onGiven}
 use Rattle.day.specs.Sound.{dayLimits, sound}
-use Rattle.day.specs.declared.Limits.{Limits}
 use Rattle.planning.specs.Planning.{planned, rowAfter}
-use Rattle.rolling.specs.Rolling.{Account, State, stateOf, cut, bestPlan, areasSuffice, begunAccount, begunChecks, begun, begunBegins}
+use Rattle.rolling.specs.Rolling.{Account, stateOf, cut, bestPlan, areasSuffice, begunAccount, begun, begunBegins}
 use Rattle.rolling.specs.Cut.{Standing, cut-sound}
 use Rattle.rolling.specs.Follows.{begun-cut}
 use Rattle.rolling.specs.Replanned.{plan-replanned, plan-refused}

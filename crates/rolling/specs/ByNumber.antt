@@ -1,27 +1,27 @@
--- What a change leaves of each train, said by train numbers and not by positions, as a yard knows its trains:
---   cancel-same, cancel-boxes, cancel-listed-before   the train is no longer listed; every other one is, with its window, its group, its served slot, and its boxes from and to
---                   every other one; no number is new;
---   add-new, add-same, add-boxes, add-listed-before   the train is listed with its window, in no group, not served, without boxes; the others as before; no other number is new;
---   boxes-there, boxes-others, boxes-same   the pair has its boxes; every other pair and every train is as before;
---   listed-exactly  a number is listed where a train of the day has it.
+-- What a change leaves of each train, said by train numbers and not by positions, as a yard knows its trains.
+--   cancel-same, cancel-boxes, cancel-listed-before: the train is no longer listed; every other one is, with its window, its group, its served
+--       slot, and its boxes from and to every other one; no number is new.
+--   add-new, add-same, add-boxes, add-listed-before: the train is listed with its window, in no group, not served, without boxes; the others are
+--       as before; no other number is new.
+--   boxes-there, boxes-others, boxes-same: the pair has its boxes; every other pair and every train is as before.
+--   listed-exactly: a number is listed where a train of the day has it.
 -- Assumes nothing.
 use mathlib.Core.Path.{_≡_, refl, sym, ap, ap₂, _∙_, subst}
-use mathlib.Core.Bool.{not, _&&_}
 use mathlib.Core.List.{List}
 use mathlib.Core.Logic.{_⊎_, inl, inr, ⊎-elim, _≢_, _↔_}
 use Prim.Native.Nat.{ℕ, suc, _-_, _≤_, _<_}
 use native.Mathlib.Omega.{arith}
-use lib.Dec.{T, ltb, leb, eqb, leb→le, lt→ltb, eqb→eq}
+use lib.Dec.{T, ltb, leb, eqb, leb→le, lt→ltb}
 use lib.ListN.{getD, set}
 use borrow.Author.Tests.{eq-eqb, le-leb}
 use Rattle.fold.specs.Test.{of-true, both}
 use Rattle.fold.specs.Fold.{lowest-found, none-i}
-use Rattle.fold.specs.Counting.{le-or-lt, same-or}
+use Rattle.fold.specs.Counting.{le-or-lt}
 use Rattle.model.specs.Model.{Yard, received, firstSlot, lastSlot, slotOf, groupOf}
 use Rattle.day.specs.SoundDay.{SoundDay, numberAt, rises}
 use Rattle.day.specs.declared.Limits.{Limits}
 use Rattle.day.specs.AnswerLaws.{AllHold}
-use Rattle.rolling.specs.Rolling.{Account, placeOf, isListed, moved, sourceWithout, sourceWith, withoutTrain, withTrain, withBoxes, cancel, add, setBoxes, edited, changeChecks}
+use Rattle.rolling.specs.Rolling.{Account, placeOf, isListed, moved, sourceWithout, sourceWith, withoutTrain, withTrain, cancel, add, setBoxes, edited, changeChecks}
 use Rattle.rolling.specs.Places.{without-before, without-after, with-before, with-here, with-after, before-or, listed-there}
 use Rattle.rolling.specs.Cut.{Standing}
 use Rattle.rolling.specs.Edits.{NewTrain, from-trains, less-at, less-received, old-train, more-at, more-received, new-at, old-at, new-boxes, index, boxes-put}
@@ -159,8 +159,7 @@ module _ {l : Limits} {a : Account} (s : Standing l a) (x : ℕ) (h : AllHold (c
       let (hj, e) = listed-there (edited a (cancel x) .day) z listed in
       let j : ℕ = placeOf (edited a (cancel x) .day) z in
       let hs = from-trains (s .isSound) p (says .0) (says .2) j hj in
-      let q : numberAt y (sourceWithout p j) ≡ z = sym (at-source (y .numbers) j hj) ∙ e in
-      (
+      let q : numberAt y (sourceWithout p j) ≡ z = sym (at-source (y .numbers) j hj) ∙ e in (
         subst (λ k. T (isListed y k)) q (listed-at-place (s .isSound) (sourceWithout p j) hs),
         λ f. source-other (y .trains) p j (same-position (s .isSound) (sourceWithout p j) p hs (says .0) (q ∙ f ∙ sym number-x)),
       )

@@ -22,7 +22,7 @@ use Rattle.day.specs.Sound.{sound}
 use Rattle.day.specs.declared.Limits.{Limits}
 use Rattle.fold.specs.Column.{column-ext, is-column, zeros-at}
 use Rattle.planning.specs.Planning.{noRow, bestRow}
-use Rattle.rolling.specs.Rolling.{Account, State, planOf, accountOf, stateOf, edited, cutFirst, cutLast, cut, BestKept, bestPlan, Call, close, change, callChecks, accountMade, accountAfter, stateSound, stateMade, stateChecks, stateAfter, begunAccount, begunChecks, begun, orBefore, states, accounts}
+use Rattle.rolling.specs.Rolling.{Account, State, planOf, accountOf, stateOf, edited, cutFirst, cutLast, cut, BestKept, bestPlan, Call, close, change, callChecks, accountMade, accountAfter, stateSound, stateMade, stateAfter, begunAccount, begunChecks, begun, orBefore, states, accounts}
 use Rattle.day.specs.SoundDay.{sound-day}
 use Rattle.rolling.specs.Places.{zeros-past}
 use Rattle.rolling.specs.Cut.{Standing, cut-keeps, best-kept, kept-best}

@@ -5,10 +5,8 @@
 use mathlib.Core.Path.{_≡_, refl, sym, ap, _∙_, subst}
 use mathlib.Core.Bool.{Bool, true, false}
 use mathlib.Core.List.{List}
-use mathlib.Core.Logic.{_⊎_}
 use Prim.Native.Nat.{ℕ}
 use native.Mathlib.Omega.{arith}
-use lib.Dec.{T}
 use lib.ListN.{length, drop}
 use Rattle.fold.specs.Test.{of-true}
 use Rattle.model.specs.Model.{Yard}
@@ -16,7 +14,7 @@ use Rattle.day.specs.Answer.{Answer, gives, refuses, onGiven, Check, checked, h
 use Rattle.day.specs.AnswerLaws.{holding-all, checked-holds, Only}
 use Rattle.day.specs.declared.Limits.{Limits}
 use Rattle.planning.specs.Planning.{costArea, choiceArea, openWords, Stays}
-use Rattle.rolling.specs.Rolling.{Account, State, accountOf, stateOf, Change, edited, cut, bestPlan, change, stateMade, stateChecks, stateAfter, begunAccount, begunChecks, begun, stateBegins, begunBegins}
+use Rattle.rolling.specs.Rolling.{Account, State, accountOf, stateOf, Change, edited, cut, bestPlan, change, stateChecks, stateAfter, begunAccount, begunChecks, begun, stateBegins, begunBegins}
 use Rattle.rolling.specs.Refusals.{OfPlanning, plan-only}
 
 -- what a plan is made into is refused by planning alone

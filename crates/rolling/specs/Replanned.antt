@@ -1,7 +1,7 @@
 -- One planner: what the planning call says on a sound day, with areas of 4,096 and 32,768 words and a row of zeros. It gives the best plan, and
 -- the row is that of the new state; or it refuses as the call of a moving day does. So the code of a change hands planning the cut day.
 -- Assumes nothing.
-use mathlib.Core.Path.{_≡_, refl, sym, ap, _∙_, subst}
+use mathlib.Core.Path.{_≡_, refl, sym, ap, _∙_}
 use mathlib.Core.Bool.{Bool, true, false}
 use mathlib.Core.List.{List, _++_}
 use mathlib.Core.Logic.{⊎-elim}
@@ -19,11 +19,10 @@ use Rattle.fold.specs.Column.{column, column-length, column-at, column-past, ze
 use Rattle.model.specs.Model.{Yard, Outcome, outcome, slotOf}
 use Rattle.model.specs.Rows.{allowed-is}
 use Rattle.model.specs.BestOf.{bestOf, is-best}
-use Rattle.model.specs.Overbooked.{Interval, firstOverbooked}
 use Rattle.day.specs.Answer.{Answer, gives, refuses, onGiven}
 use Rattle.day.specs.Sound.{dayLimits, sound}
 use Rattle.day.specs.SoundLaws.{sound-is}
-use Rattle.planning.specs.Planning.{costWords, choiceWords, costArea, choiceArea, noRow, bestRow, bestAnswer, planned, begins, placed, rowAfter, openWords, Stays}
+use Rattle.planning.specs.Planning.{costWords, choiceWords, costArea, choiceArea, bestRow, bestAnswer, planned, begins, placed, rowAfter, openWords, Stays}
 use Rattle.planning.specs.Answers.{none-gives, planned-begun, row-begun}
 use Rattle.planning.specs.Demand.{memory-suffices}
 use Rattle.rolling.specs.Rolling.{bestPlan, areasSuffice}

@@ -17,7 +17,7 @@ use borrow.Author.Tests.{le-leb, eq-eqb}
 use Rattle.fold.specs.Fold.{lowest-found, none-i}
 use Rattle.fold.specs.Test.{both, both-of, of-true}
 use Rattle.fold.specs.Counting.{le-or-lt, same-or}
-use Rattle.fold.specs.Column.{column, column-length, column-at, column-past, column-ext, is-column, table, table-ext, table-at, is-table}
+use Rattle.fold.specs.Column.{column, column-length, column-at, column-ext, is-column, table, table-ext, table-at, is-table}
 use Rattle.model.specs.Model.{Yard, received, slotOf}
 use Rattle.day.specs.Sound.{trainRanges}
 use Rattle.day.specs.SoundLaws.{within-is}

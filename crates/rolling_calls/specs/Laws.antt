@@ -1,11 +1,11 @@
 -- The ways out of a change come to what the call answers.
 -- Assumes nothing.
-use mathlib.Core.Path.{_≡_, refl, sym, ap, _∙_, subst}
+use mathlib.Core.Path.{_≡_, sym, ap, _∙_, subst}
 use mathlib.Core.Bool.{Bool, true, false}
 use mathlib.Core.List.{List, [], _∷_}
 use Prim.Native.Nat.{ℕ}
 use Rattle.fold.specs.Test.{of-true, is-true}
-use Rattle.day.specs.Answer.{Answer, gives, refuses, checked, holding}
+use Rattle.day.specs.Answer.{Answer, gives, refuses, holding}
 use Rattle.day.specs.AnswerLaws.{gives-same, checked-gives, checked-holds, checked-refuses, all-holding, refused-holding}
 use Rattle.day.specs.Sound.{dayLimits}
 use Rattle.rolling.specs.Rolling.{Account, State, accountOf, Change, edited, change, areasSuffice, changeChecks, stateSound, stateMade, stateAfter, stateBegins}

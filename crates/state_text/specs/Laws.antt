@@ -1,14 +1,13 @@
 -- The ways out of taking a state from a text, and what writing one puts into lent memory.
 -- Assumes nothing.
-use mathlib.Core.Path.{_≡_, sym, ap, _∙_}
+use mathlib.Core.Path.{_≡_, ap, _∙_}
 use mathlib.Core.List.{List, [], _∷_, _++_}
 use Prim.Native.Nat.{ℕ}
 use lib.ListN.{length, drop}
-use lib.Seq.{sets-eq}
 use borrow.Author.Tests.{eq-eqb, ne-eqb}
 use Rattle.fold.specs.Column.{column}
 use Rattle.model.specs.Model.{Yard, slotOf}
-use Rattle.day.specs.Answer.{Answer, gives, refuses}
+use Rattle.day.specs.Answer.{gives, refuses}
 use Rattle.day.specs.Sound.{dayLimits}
 use Rattle.day.specs.declared.Limits.{Limits}
 use Rattle.dayfile.specs.Reading.{readDay}

@@ -1,7 +1,7 @@
 -- The state of a moving day as a program keeps it: the day file's bytes, the number of closed slots, the slots of its trains. What such
 -- a state is, and what a caller is told and lent memory holds when a call gives a new one.
 -- Assumes nothing.
-use mathlib.Core.Bool.{Bool, cond, _&&_}
+use mathlib.Core.Bool.{cond}
 use mathlib.Core.List.{List, [], _∷_, _++_}
 use Prim.Native.Nat.{ℕ}
 use lib.Dec.{leb, eqb}

@@ -1,13 +1,13 @@
 -- What is told and left by the functions on a kept state, way out by way out.
 -- Assumes nothing.
 use mathlib.Core.Path.{_≡_, refl, sym, ap, _∙_, subst}
-use mathlib.Core.Bool.{Bool, true, false, _&&_}
+use mathlib.Core.Bool.{true, false}
 use mathlib.Core.List.{List, [], _∷_, _++_}
 use Prim.Native.Nat.{ℕ}
 use lib.Dec.{leb, eqb}
 use lib.ListN.{length, drop}
 use Rattle.model.specs.Model.{Yard}
-use Rattle.day.specs.Answer.{Answer, gives, refuses, refusal, onGiven, whereGiven, code, must, checked}
+use Rattle.day.specs.Answer.{Answer, gives, refusal, code, must, checked}
 use Rattle.day.specs.AnswerLaws.{gives-same, checked-gives, given-before}
 use Rattle.day.specs.Sound.{dayLimits}
 use Rattle.day.specs.declared.Refusal.{Refusal}
@@ -20,7 +20,6 @@ use Rattle.telling.specs.Laws.{Told}
 use Rattle.rolling.specs.Rolling.{State, Call, close, stateMade, stateChecks, stateAfter, begun, stateBegins, begunBegins}
 use Rattle.rolling.specs.Follows.{begin-follows}
 use Rattle.state_text.specs.StateText.{stateWith, keptState, figuresOfState, stateTold, stateNumbers, dayAfter, planAfter}
-use Rattle.text_rolling.specs.TextRolling.{withRoom}
 
 -- what is told of an answer, where there is room for it
 pub record ToldState (a : Answer State) (numbers₀ : List ℕ) (said : ℕ) (numbers : List ℕ) : Type 0 where

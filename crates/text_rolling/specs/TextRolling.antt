@@ -5,13 +5,12 @@ use mathlib.Core.Bool.{Bool, false, _&&_}
 use mathlib.Core.List.{List, [], _∷_}
 use Prim.Native.Nat.{ℕ}
 use lib.Dec.{leb}
-use Rattle.model.specs.Model.{Yard}
 use Rattle.day.specs.Answer.{Answer, onGiven, whereGiven, must, checked}
 use Rattle.day.specs.declared.Limits.{Limits}
 use Rattle.dayfile.specs.Reading.{readDay}
 use Rattle.dayfile.specs.Size.{dayBytes}
 use Rattle.telling.specs.Telling.{numberCount}
-use Rattle.rolling.specs.Rolling.{State, Change, Call, close, change, stateAfter, begun, stateBegins, begunBegins}
+use Rattle.rolling.specs.Rolling.{State, Change, close, change, stateAfter, begun, stateBegins, begunBegins}
 use Rattle.state_text.specs.StateText.{keptState}
 
 -- ---- room: four numbers; for a new plan a byte for each train that there may be; for a new day file the most bytes of one

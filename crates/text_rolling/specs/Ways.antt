@@ -1,13 +1,13 @@
 -- The ways out of the functions on a kept state: no room, no state, and what the call makes of the state.
 -- Assumes nothing.
-use mathlib.Core.Path.{_≡_, refl, sym, ap, _∙_, subst}
+use mathlib.Core.Path.{_≡_, refl}
 use mathlib.Core.Bool.{Bool, true, false, _&&_}
 use mathlib.Core.List.{List, [], _∷_}
 use Prim.Native.Nat.{ℕ}
 use lib.Dec.{leb}
 use lib.ListN.{length}
 use Rattle.model.specs.Model.{Yard}
-use Rattle.day.specs.Answer.{Answer, gives, refuses, refusal, onGiven, whereGiven, code}
+use Rattle.day.specs.Answer.{Answer, gives, refuses, refusal, code}
 use Rattle.day.specs.Sound.{dayLimits}
 use Rattle.day.specs.declared.Refusal.{Refusal}
 use Rattle.day.specs.declared.Refusal.the-variants.{TooShort}
@@ -15,10 +15,10 @@ use Rattle.dayfile.specs.Reading.{readDay}
 use Rattle.planning.specs.Planning.{costArea, choiceArea, openWords, Stays}
 use Rattle.telling.specs.Telling.{numberCount}
 use Rattle.telling.specs.Laws.{Told}
-use Rattle.rolling.specs.Rolling.{State, Change, close, change, stateAfter, begun, stateBegins, begunBegins}
+use Rattle.rolling.specs.Rolling.{State, Change, close, change, stateAfter}
 use Rattle.state_text.specs.StateText.{keptState, stateNumbers, dayAfter, planAfter}
 use Rattle.text_rolling.specs.TextRolling.{planRoom, stateRoom, withRoom, beginFor, closeFor, changeFor, beginOpens, changeOpens}
-use Rattle.text_rolling.specs.Laws.{ToldState, WrittenState, told-refused, state-numbers, no-numbers, BegunDay, ChangedState}
+use Rattle.text_rolling.specs.Laws.{ToldState, told-refused, state-numbers, no-numbers, BegunDay, ChangedState}
 
 -- ---- with room and without
 

@@ -1,6 +1,6 @@
 -- `account_edits::boxes_set` meets its contract, way out by way out.
 -- Assumes nothing.
-use mathlib.Core.Path.{_≡_, sym, ap₂, ap, _∙_}
+use mathlib.Core.Path.{_≡_, sym, ap₂, _∙_}
 use mathlib.Core.Bool.{Bool, true, _&&_}
 use Prim.Native.Nat.{_≤_, _<_}
 use native.Mathlib.Omega.{arith}

@@ -7,7 +7,7 @@ use native.Mathlib.Omega.{arith}
 use borrow.Author.Needs.{needs}
 use borrow.Author.Tests.{not-true, not-false}
 use Rattle.fold.specs.Test.{of-true}
-use Rattle.day.specs.Sound.{dayLimits, yard}
+use Rattle.day.specs.Sound.{dayLimits}
 use Rattle.day.specs.SoundLaws.{sound-is}
 use Rattle.rolling.specs.Rolling
 use Rattle.rolling.specs.Rolling.{isListed, numberIn}

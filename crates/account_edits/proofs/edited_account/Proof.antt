@@ -1,6 +1,6 @@
 -- `account_edits::edited_account` meets its contract, change by change.
 -- Assumes nothing.
-use mathlib.Core.Path.{_≡_, sym, ap, _∙_}
+use mathlib.Core.Path.{sym, ap, _∙_}
 use borrow.Author.Needs.{needs}
 use Rattle.day.specs.Sound.{dayLimits}
 use Rattle.account_edits.specs.Accounts.{accountIn, changeIn, made}

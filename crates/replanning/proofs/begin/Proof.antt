@@ -1,7 +1,7 @@
 -- `replanning::begin` meets its contract.
 -- Assumes nothing.
 use mathlib.Core.Path.{_≡_, refl, sym, ap, subst, _∙_}
-use mathlib.Core.Bool.{true, false}
+use mathlib.Core.Bool.{true}
 use lib.ListN.{length}
 use borrow.Author.Needs.{needs}
 use borrow.Author.Tests.{not-true, not-false}
@@ -10,7 +10,7 @@ use Rattle.day.specs.Sound.{dayLimits, yard, sound}
 use Rattle.planning.specs.Planning.{costArea, choiceArea, openWords, Stays}
 use Rattle.rolling.specs.Rolling.{areasSuffice, orBefore}
 use Rattle.rolling.specs.Follows.{begun-standing}
-use Rattle.rolling_state.specs.States.{stateIn, answer}
+use Rattle.rolling_state.specs.States.{answer}
 use Rattle.rolling_state.specs.Laws.{left-by}
 use Rattle.replanning.specs.Laws.{begun-unsound, begun-short, begun-planned}
 use Rattle.replanning.proofs.begin.Statement.{statement}

@@ -1,7 +1,6 @@
 -- `replanning::replan` meets its contract: planning's own, on the cut day, with a row of zeros.
 -- Assumes nothing.
-use mathlib.Core.Path.{_≡_, sym, ap, subst}
-use mathlib.Core.Bool.{true}
+use mathlib.Core.Path.{sym, ap, subst}
 use lib.Dec.{T}
 use lib.ListN.{length}
 use borrow.Author.Needs.{needs}

@@ -1,8 +1,7 @@
 -- `rolling_calls::change` meets its contract, way out by way out.
 -- Assumes nothing.
 use mathlib.Core.Path.{_≡_, refl, sym, ap, subst, _∙_}
-use mathlib.Core.Bool.{Bool, true, false}
-use mathlib.Core.List.{List}
+use mathlib.Core.Bool.{true}
 use Prim.Native.Nat.{ℕ}
 use lib.Dec.{T}
 use lib.ListN.{length}
@@ -12,7 +11,7 @@ use Rattle.fold.specs.Test.{of-true}
 use Rattle.day.specs.Answer.{gives, judged}
 use Rattle.day.specs.Sound.{dayLimits, sound}
 use Rattle.planning.specs.Planning.{costArea, choiceArea, openWords, Stays}
-use Rattle.rolling.specs.Rolling.{State, Account, accountOf, areasSuffice, stateSound}
+use Rattle.rolling.specs.Rolling.{State, accountOf, areasSuffice, stateSound}
 use Rattle.rolling.specs.States.{sound-state}
 use Rattle.rolling_state.specs.States.{stateIn, Says}
 use Rattle.account_edits.specs.Accounts.{accountIn, changeIn, made}

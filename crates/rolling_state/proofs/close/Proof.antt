@@ -1,12 +1,12 @@
 -- `rolling_state::close` meets its contract.
 -- Assumes nothing.
-use mathlib.Core.Path.{_≡_, sym, subst, _∙_}
-use mathlib.Core.Bool.{true, false}
+use mathlib.Core.Path.{_≡_, sym, _∙_}
+use mathlib.Core.Bool.{true}
 use borrow.Author.Needs.{needs}
 use borrow.Author.Tests.{not-true, not-false}
 use Rattle.day.specs.Sound.{dayLimits}
 use Rattle.rolling.specs.Rolling.{stateSound}
-use Rattle.rolling_state.specs.States.{stateIn, Says}
+use Rattle.rolling_state.specs.States.{stateIn}
 use Rattle.rolling_state.specs.Laws.{close-unsound, close-none, close-taken, left-by}
 use Rattle.rolling_state.proofs.close.Statement.{statement}
 use Rattle.rolling_state.proofs.close.Tie as tie

@@ -1,14 +1,14 @@
 -- `state_text::put_state` meets its contract.
 -- Assumes nothing.
-use mathlib.Core.Path.{_≡_, ap, _∙_}
-use mathlib.Core.List.{[], _∷_, _++_}
+use mathlib.Core.Path.{ap, _∙_}
+use mathlib.Core.List.{_∷_}
 use Prim.Native.Nat.{_≤_}
 use native.Mathlib.Omega.{arith}
 use lib.Dec.{T}
 use lib.ListN.{length, drop}
 use borrow.Author.Needs.{needs}
 use Rattle.day.specs.Sound.{dayLimits, yard, sound}
-use Rattle.dayfile.specs.Size.{dayBytes, day-size, day-most}
+use Rattle.dayfile.specs.Size.{day-size, day-most}
 use Rattle.dayfile.specs.Writing.{dayText}
 use Rattle.output.specs.Laws.{put-count, put-list}
 use Rattle.rolling.specs.States.{sound-state}

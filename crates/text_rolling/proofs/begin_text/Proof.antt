@@ -1,7 +1,7 @@
 -- `text_rolling::begin_text` meets its contract. The room, then the two cases of reading.
 -- Assumes nothing.
 use mathlib.Core.Path.{_≡_, sym, ap, _∙_}
-use mathlib.Core.Bool.{true, false}
+use mathlib.Core.Bool.{true}
 use Prim.Native.Nat.{_≤_}
 use lib.Dec.{leb, leb→le}
 use lib.ListN.{length}
@@ -10,7 +10,6 @@ use Rattle.fold.specs.Test.{of-true}
 use Rattle.day.specs.Answer.{gives, refusal, judged}
 use Rattle.day.specs.Sound.{dayLimits, yard}
 use Rattle.telling.specs.Telling.{numberCount}
-use Prim.Native.Nat.{_<_}
 use borrow.Author.Tests.{le-leb, lt-leb}
 use Rattle.dayfile.specs.Reading.{readDay}
 use Rattle.dayfile.specs.RoundTrip.{read-write}
