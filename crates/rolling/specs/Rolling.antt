@@ -56,6 +56,7 @@ stateOf a plan = record { day = a .day; closed = a .closed; row = column (a .day
 unfoldable pub placeOf : Yard → ℕ → ℕ
 placeOf y x = lowest (y .trains) λ i. leb x (getD (y .numbers) i 0)
 
+-- x is the number of one of the day's trains
 unfoldable pub isListed : Yard → ℕ → Bool
 isListed y x = ltb (placeOf y x) (y .trains) && eqb (getD (y .numbers) (placeOf y x) 0) x
 
@@ -216,6 +217,8 @@ pub data Call : Type 0 where
 abbrev pub numberIn : Limits → ℕ → Bool
 numberIn l = between (range 1 (l .number))
 
+-- 3 a field outside its limits; 18 a train that is not listed or, in cancel, is served or the only one; 19 an added number that is listed, or
+-- a thirteenth train; 5 a window that is not in order, or begins in a closed slot; 6 boxes from a train to itself
 abbrev pub changeChecks : Limits → Account → Change → List Check
 changeChecks l a (cancel x) =
     must (numberIn l x) 3 (0 ∷ [])
@@ -232,6 +235,7 @@ changeChecks l a (setBoxes to from boxes) =
     ∷ must (not (eqb to from)) 6 (0 ∷ [])
     ∷ []
 
+-- 20 no slot is open; 10 an area is too short, before a change's own
 abbrev pub callChecks : Limits → Account → Call → List Check
 callChecks l a close = must (ltb (a .closed) (a .day .slots)) 20 (0 ∷ []) ∷ []
 callChecks l a (change c costs choices) = must (areasSuffice costs choices) 10 (0 ∷ []) ∷ changeChecks l a c
@@ -247,7 +251,7 @@ accountAfter l a call = checked (callChecks l a call) (accountMade a call)
 
 -- ---- what a call answers
 
--- a sound day, not more closed slots than there are, an allowed plan, and 0 past it
+-- what 8 asks: a sound day, not more closed slots than there are, an allowed plan, and 0 past it (in as many places as a record has)
 unfoldable pub stateSound : Limits → State → Bool
 stateSound l s =
     sound l (s .day) && leb (s .closed) (s .day .slots) && eqb (length (s .row)) (l .trains)
