@@ -11,6 +11,7 @@ use Rattle.known_rolling.specs.Days.{plain, plainWith1, plainFor1, plain
 use Rattle.known_rolling.specs.Days.{trioWithout30, trioOne, trioWith20, trioAgain}
 use Rattle.known_rolling.specs.Days.{even, evenWith20, even20, evenWith40, level, levelWithout20, levelWith15, levelWith12, levelWithout10}
 use Rattle.known_rolling.specs.Days.{pairs, pairsAcross, pairsTo30, pairsTo40, pairsTo20, paper, paperWide, paperWith5, paperWithout2, paperNew2, paperNoTo1, paperTo4}
+use Rattle.known_rolling.specs.Days.{late, lateWith30, eight, eightTo7, eightWithout6, halves}
 
 -- the stretch of 9 may begin in closed slots, and counts the added train: 1..3 with 4, where the open slots alone have 2..3 with 3. 5 before 9.
 -- The day goes on as before
@@ -284,4 +285,40 @@ allClosedCalls =
     ∷ says (asked (cancel 1)) (refuses 18 (0 ∷ []))
     ∷ says (asked (add 9 3 3)) (refuses 5 (0 ∷ []))
     ∷ says close (refuses 20 (0 ∷ []))
+    ∷ []
+
+-- eight slots: each can be closed; a train of a later one is served when its own is closed, and not before; a first slot that is closed gets 5
+-- there too
+abbrev pub lateCalls : List Step
+lateCalls =
+    says close (gives (standing late 1 (5 ∷ 1 ∷ [])))
+    ∷ says close (gives (standing late 2 (5 ∷ 1 ∷ [])))
+    ∷ says close (gives (standing late 3 (5 ∷ 1 ∷ [])))
+    ∷ says close (gives (standing late 4 (5 ∷ 1 ∷ [])))
+    ∷ says (asked (add 30 4 8)) (refuses 5 (0 ∷ []))
+    ∷ says (asked (cancel 20)) (refuses 18 (0 ∷ []))
+    ∷ says (asked (add 30 5 8)) (gives (standing lateWith30 4 (6 ∷ 1 ∷ 5 ∷ [])))
+    ∷ says (asked (cancel 30)) (gives (standing late 4 (5 ∷ 1 ∷ [])))
+    ∷ says close (gives (standing late 5 (5 ∷ 1 ∷ [])))
+    ∷ says (asked (cancel 10)) (refuses 18 (0 ∷ []))
+    ∷ says (asked (add 30 5 8)) (refuses 5 (0 ∷ []))
+    ∷ says close (gives (standing late 6 (5 ∷ 1 ∷ [])))
+    ∷ says close (gives (standing late 7 (5 ∷ 1 ∷ [])))
+    ∷ says close (gives (standing late 8 (5 ∷ 1 ∷ [])))
+    ∷ says close (refuses 20 (0 ∷ []))
+    ∷ []
+
+-- seven and eight trains: weights, groups and boxes stay with them
+abbrev pub sevenCalls : List Step
+sevenCalls =
+    says (asked (add 8 1 1)) (gives (standing eight 0 (replicate 8 1)))
+    ∷ says (asked (setBoxes 7 1 200)) (gives (standing eightTo7 0 (replicate 8 1)))
+    ∷ says (asked (cancel 6)) (gives (standing eightWithout6 0 (replicate 7 1)))
+    ∷ []
+
+-- the stretch of 9 on a day of seven trains
+abbrev pub halvesCalls : List Step
+halvesCalls =
+    says close (gives (standing halves 1 (1 ∷ 1 ∷ 1 ∷ 2 ∷ 2 ∷ 2 ∷ [])))
+    ∷ says (asked (add 7 2 2)) (refuses 9 (1 ∷ 2 ∷ 7 ∷ []))
     ∷ []

@@ -332,3 +332,30 @@ abbrev pub paperTo4 : Yard
 paperTo4 =
     yardOf 4 2 3 1 1 (1 ∷ 2 ∷ 3 ∷ 4 ∷ []) (1 ∷ 3 ∷ 1 ∷ 1 ∷ []) (3 ∷ 3 ∷ 3 ∷ 3 ∷ []) []
     ((0 ∷ 0 ∷ 0 ∷ 0 ∷ []) ∷ (0 ∷ 0 ∷ 0 ∷ 0 ∷ []) ∷ (3 ∷ 0 ∷ 0 ∷ 5 ∷ []) ∷ (8 ∷ 0 ∷ 1 ∷ 0 ∷ []) ∷ [])
+
+-- ---- days of eight slots, and of seven trains and more
+
+abbrev pub late : Yard
+late = yardOf 2 1 8 1 1 (10 ∷ 20 ∷ []) (5 ∷ 1 ∷ []) (6 ∷ 8 ∷ []) [] []
+
+abbrev pub lateWith30 : Yard
+lateWith30 = yardOf 3 1 8 1 1 (10 ∷ 20 ∷ 30 ∷ []) (5 ∷ 1 ∷ 5 ∷ []) (6 ∷ 8 ∷ 8 ∷ []) [] []
+
+abbrev pub seven : Yard
+seven = yardOf 7 12 1 11 2 (listed 7 suc) (replicate 7 1) (replicate 7 1) (0 ∷ 0 ∷ 0 ∷ 0 ∷ 0 ∷ 9 ∷ 9 ∷ []) []
+
+abbrev pub eight : Yard
+eight = yardOf 8 12 1 11 2 (listed 8 suc) (replicate 8 1) (replicate 8 1) (0 ∷ 0 ∷ 0 ∷ 0 ∷ 0 ∷ 9 ∷ 9 ∷ []) []
+
+abbrev pub eightTo7 : Yard
+eightTo7 =
+    yardOf 8 12 1 11 2 (listed 8 suc) (replicate 8 1) (replicate 8 1) (0 ∷ 0 ∷ 0 ∷ 0 ∷ 0 ∷ 9 ∷ 9 ∷ [])
+    ([] ∷ [] ∷ [] ∷ [] ∷ [] ∷ [] ∷ (200 ∷ []) ∷ [])
+
+abbrev pub eightWithout6 : Yard
+eightWithout6 =
+    yardOf 7 12 1 11 2 (1 ∷ 2 ∷ 3 ∷ 4 ∷ 5 ∷ 7 ∷ 8 ∷ []) (replicate 7 1) (replicate 7 1) (0 ∷ 0 ∷ 0 ∷ 0 ∷ 0 ∷ 9 ∷ [])
+    ([] ∷ [] ∷ [] ∷ [] ∷ [] ∷ (200 ∷ []) ∷ [])
+
+abbrev pub halves : Yard
+halves = yardOf 6 3 2 1 1 (listed 6 suc) (1 ∷ 1 ∷ 1 ∷ 2 ∷ 2 ∷ 2 ∷ []) (1 ∷ 1 ∷ 1 ∷ 2 ∷ 2 ∷ 2 ∷ []) [] []

@@ -27,8 +27,8 @@ use Rattle.known_days.specs.Days.{padded}
 use Rattle.known_days.specs.Lines.{sameAnswer}
 use Rattle.known_rolling.specs.Lines.{standing, asked, says, Line, begins, rolls, answers, Holds, sameHead, sameColumns, sameState, allAnswer, passes, line-holds}
 use Rattle.known_rolling.specs.Days.{narrow, joint, convoy, busy, plain, solo, eleven, trio, even, level, pairs, crowded, unmatched, heavy, strict}
-use Rattle.known_rolling.specs.Days.{badNumbers, badWindow, badGroup, badBoxes, pastGroup, pastBoxes, thirteen, paper, paperWide, paperWithout3}
-use Rattle.known_rolling.specs.Calls.{narrowCalls, jointCalls, convoyCalls, busyCalls, plainCalls, soloCalls, elevenCalls, trioCalls, evenCalls, levelCalls, pairsCalls, heavyCalls, partedCalls, pastCalls, paperCalls, oneClosedCalls, twoClosedCalls, allClosedCalls}
+use Rattle.known_rolling.specs.Days.{badNumbers, badWindow, badGroup, badBoxes, pastGroup, pastBoxes, thirteen, paper, paperWide, paperWithout3, paperWith5, late, seven, halves}
+use Rattle.known_rolling.specs.Calls.{narrowCalls, jointCalls, convoyCalls, busyCalls, plainCalls, soloCalls, elevenCalls, trioCalls, evenCalls, levelCalls, pairsCalls, heavyCalls, partedCalls, pastCalls, paperCalls, oneClosedCalls, twoClosedCalls, allClosedCalls, lateCalls, sevenCalls, halvesCalls}
 
 -- ---- the table
 
@@ -46,6 +46,9 @@ table =
     ∷ rolls even (2 ∷ 1 ∷ []) evenCalls
     ∷ rolls level (2 ∷ 2 ∷ 1 ∷ 1 ∷ []) levelCalls
     ∷ rolls pairs (2 ∷ 2 ∷ 1 ∷ 1 ∷ []) pairsCalls
+    ∷ rolls late (5 ∷ 1 ∷ []) lateCalls
+    ∷ rolls seven (replicate 7 1) sevenCalls
+    ∷ rolls halves (1 ∷ 1 ∷ 1 ∷ 2 ∷ 2 ∷ 2 ∷ []) halvesCalls
     -- begin: 8, 10, then 9 or 16. Its areas are those of a changing day too, and longer ones suffice
     ∷ begins heavy 4096 32768 (refuses 8 (0 ∷ []))
     ∷ begins heavy 0 0 (refuses 8 (0 ∷ []))
@@ -91,6 +94,7 @@ table =
     -- a plan that is allowed and not the best is taken: close keeps it, a change puts the best one in its place, and boxes set to the number that
     -- they have are a change
     ∷ answers (standing paper 0 (1 ∷ 1 ∷ 2 ∷ 2 ∷ [])) paperCalls
+    ∷ answers (standing paperWith5 0 (1 ∷ 1 ∷ 2 ∷ 2 ∷ 3 ∷ [])) (says close (gives (standing paperWith5 1 (1 ∷ 1 ∷ 2 ∷ 2 ∷ 3 ∷ []))) ∷ [])
     ∷ answers (standing paper 0 (1 ∷ 1 ∷ 2 ∷ 2 ∷ [])) (says (asked (setBoxes 1 4 1)) (gives (standing paper 0 (2 ∷ 1 ∷ 2 ∷ 1 ∷ []))) ∷ [])
     ∷ answers (standing paper 0 (1 ∷ 1 ∷ 2 ∷ 2 ∷ [])) (says (asked (cancel 3)) (gives (standing paperWithout3 0 (2 ∷ 1 ∷ 1 ∷ []))) ∷ [])
     ∷ answers (standing paper 0 (1 ∷ 1 ∷ 2 ∷ 2 ∷ [])) (says (asked (add 5 1 2)) (refuses 9 (1 ∷ 2 ∷ 5 ∷ [])) ∷ [])

@@ -42,7 +42,7 @@ module _ {X : Type 0} (y : Yard) (said : Answer X) where
     pub spacious : (a b : ℕ) → T (overbooked y a b) → ⊥
     pub is : said ≡ refuses 16 (0 ∷ [])
 
-  none-refused : (f : List ℕ → Answer X) → said ≡ onGiven (bestPlan y) f → NoRow y → Nine ⊎ Sixteen
+  pub none-refused : (f : List ℕ → Answer X) → said ≡ onGiven (bestPlan y) f → NoRow y → Nine ⊎ Sixteen
   none-refused f e nowhere = go (firstOverbooked y) refl
     where
       no-plan : said ≡ onGiven (noRow y (firstOverbooked y)) f

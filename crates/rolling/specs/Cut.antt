@@ -1,7 +1,7 @@
 -- The day that is left to planning: it is sound, and its allowed rows are the day's allowed rows that keep served trains where they were and
 -- put all others into open slots. So its best plan is the best of those.
 -- Assumes nothing.
-use mathlib.Core.Path.{_≡_, _∙_}
+use mathlib.Core.Path.{_≡_, refl, _∙_}
 use mathlib.Core.List.{List}
 use mathlib.Core.Logic.{⊎-elim, _↔_}
 use Prim.Native.Nat.{ℕ, suc, _≤_, _<_, max}
@@ -34,19 +34,19 @@ module _ {l : Limits} {a : Account} (s : Standing l a) where
 
   -- ---- the cut windows
 
-  first-served : (i : ℕ) → i < a .day .trains → 1 ≤ slotOf (a .served) i → firstSlot (cut a) i ≡ slotOf (a .served) i
+  pub first-served : (i : ℕ) → i < a .day .trains → 1 ≤ slotOf (a .served) i → firstSlot (cut a) i ≡ slotOf (a .served) i
   unfolding cutFirst
   first-served i h k = column-at (a .day .width) (a .day .trains) (cutFirst a) i (trains-fit i h) h ∙ rw (ne-eqb (slotOf (a .served) i) 0 (λ e. omega arith))
 
-  last-served : (i : ℕ) → i < a .day .trains → 1 ≤ slotOf (a .served) i → lastSlot (cut a) i ≡ slotOf (a .served) i
+  pub last-served : (i : ℕ) → i < a .day .trains → 1 ≤ slotOf (a .served) i → lastSlot (cut a) i ≡ slotOf (a .served) i
   unfolding cutLast
   last-served i h k = column-at (a .day .width) (a .day .trains) (cutLast a) i (trains-fit i h) h ∙ rw (ne-eqb (slotOf (a .served) i) 0 (λ e. omega arith))
 
-  first-waiting : (i : ℕ) → i < a .day .trains → slotOf (a .served) i ≡ 0 → firstSlot (cut a) i ≡ max (firstSlot (a .day) i) (suc (a .closed))
+  pub first-waiting : (i : ℕ) → i < a .day .trains → slotOf (a .served) i ≡ 0 → firstSlot (cut a) i ≡ max (firstSlot (a .day) i) (suc (a .closed))
   unfolding cutFirst
   first-waiting i h e = column-at (a .day .width) (a .day .trains) (cutFirst a) i (trains-fit i h) h ∙ rw (eq-eqb (slotOf (a .served) i) 0 e)
 
-  last-waiting : (i : ℕ) → i < a .day .trains → slotOf (a .served) i ≡ 0 → lastSlot (cut a) i ≡ lastSlot (a .day) i
+  pub last-waiting : (i : ℕ) → i < a .day .trains → slotOf (a .served) i ≡ 0 → lastSlot (cut a) i ≡ lastSlot (a .day) i
   unfolding cutLast
   last-waiting i h e = column-at (a .day .width) (a .day .trains) (cutLast a) i (trains-fit i h) h ∙ rw (eq-eqb (slotOf (a .served) i) 0 e)
 
@@ -92,6 +92,10 @@ module _ {l : Limits} {a : Account} (s : Standing l a) where
         ungrouped = d .ungrouped;
         without = d .without;
       }
+
+  -- nothing else is cut: the same trains, tracks and slots
+  pub cut-head : (cut a .trains ≡ a .day .trains) × (cut a .tracks ≡ a .day .tracks) × (cut a .slots ≡ a .day .slots)
+  cut-head = (refl, refl, refl)
 
   pub cut-sound : T (sound l (cut a))
   cut-sound = day-sound l (cut a) cut-day

@@ -11,3 +11,5 @@ pub mod Undone
 pub mod Refusals
 pub mod ByNumber
 pub mod Memory
+pub mod Exactly
+pub mod Begins

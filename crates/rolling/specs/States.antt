@@ -95,7 +95,7 @@ module _ {l : Limits} {s : State} (d : SoundState l s) where
   plan-at i h = getD-take (s .day .trains) (s .row) i 0 h
 
   -- a train's slot is one of the day, in its window
-  in-window : (i : ℕ) → i < s .day .trains → (1 ≤ slotOf (s .row) i) × (firstSlot (s .day) i ≤ slotOf (s .row) i) × (slotOf (s .row) i ≤ lastSlot (s .day) i)
+  pub in-window : (i : ℕ) → i < s .day .trains → (1 ≤ slotOf (s .row) i) × (firstSlot (s .day) i ≤ slotOf (s .row) i) × (slotOf (s .row) i ≤ lastSlot (s .day) i)
   in-window i h =
       let a = allowed-is (s .day) (planOf s) (d .isAllowed) in
       let e = plan-at i h in
@@ -106,10 +106,10 @@ module _ {l : Limits} {s : State} (d : SoundState l s) where
   served-at : (i : ℕ) → i < s .day .trains → slotOf (accountOf s .served) i ≡ servedSlot (s .closed) (slotOf (s .row) i)
   served-at i h = column-at (s .day .width) (s .day .trains) (λ i. servedSlot (s .closed) (slotOf (s .row) i)) i (fits i h) h
 
-  at-closed : (i : ℕ) → i < s .day .trains → slotOf (s .row) i ≤ s .closed → slotOf (accountOf s .served) i ≡ slotOf (s .row) i
+  pub at-closed : (i : ℕ) → i < s .day .trains → slotOf (s .row) i ≤ s .closed → slotOf (accountOf s .served) i ≡ slotOf (s .row) i
   at-closed i h c = served-at i h ∙ slot-closed (s .closed) (slotOf (s .row) i) c
 
-  at-open : (i : ℕ) → i < s .day .trains → s .closed < slotOf (s .row) i → slotOf (accountOf s .served) i ≡ 0
+  pub at-open : (i : ℕ) → i < s .day .trains → s .closed < slotOf (s .row) i → slotOf (accountOf s .served) i ≡ 0
   at-open i h c = served-at i h ∙ slot-open (s .closed) (slotOf (s .row) i) c
 
   pub state-standing : Standing l (accountOf s)

@@ -13,8 +13,8 @@ ghost use Rattle.model.specs.Model.{slotOf};
 ghost use Rattle.day.specs.Sound.{dayLimits};
 ghost use Rattle.dayfile.specs.Size.{dayBytes};
 ghost use Rattle.telling.specs.Telling.{numberCount};
-ghost use Rattle.rolling.specs.Rolling.{planOf, stateSound};
-ghost use Rattle.rolling_state.specs.States.{stateIn, answer};
+ghost use Rattle.rolling.specs.Rolling.{planOf, stateSound, orBefore};
+ghost use Rattle.rolling_state.specs.States.{stateIn, answer, zeroState};
 ghost use Rattle.state_text.specs.StateText.{keptState};
 ghost use Rattle.state_text.specs.Laws.{PutState};
 use day::Refusal;
@@ -38,6 +38,7 @@ fn padded(row: &[u8]) -> [u8; 12]
 // state is sound is asked by the call that it is handed to.)
 pub fn state_of(text: &[u8], closed: u32, row: &[u8]) -> Rolled
     ensures { λ r. ⌜ answer r ≡ keptState dayLimits (now (text .entry)) closed (now (row .entry)) ⌝ }
+    ensures { λ r. ⌜ stateIn (r .state) ≡ orBefore zeroState (answer r) ⌝ }
 {
     let reading = dayread::read_day(text);
     let verdict = reading.verdict;

@@ -8,7 +8,9 @@ use Rattle.day.specs.Sound.{dayLimits, yard}
 use Rattle.day.specs.SoundLaws.{sound-is}
 use Rattle.dayfile.specs.Reading.{readDay}
 use Rattle.dayfile.specs.RoundTrip.{read-sound}
-use Rattle.rolling_state.specs.States.{zeroState}
+use Rattle.rolling.specs.Rolling.{orBefore}
+use Rattle.rolling_state.specs.States.{answer, zeroState}
+use Rattle.rolling_state.specs.Laws.{left-by}
 use Rattle.state_text.specs.Laws.{kept-unread, kept-other, kept-taken}
 use Rattle.state_text.proofs.state_of.Statement.{statement}
 use Rattle.state_text.proofs.state_of.Tie as tie
@@ -42,8 +44,10 @@ refused-requires c κs = search needs
 returns : tie.Need-returns
 returns c =
     let told = c .before .before .before in
-    let a = start (told .before .before) .args in
-    c .refused .ensures .said ∙ kept-unread dayLimits (a .text .now) (a .closed) (a .row .now) (refused told)
+    let a = start (told .before .before) .args in (
+      c .refused .ensures .said ∙ kept-unread dayLimits (a .text .now) (a .closed) (a .row .now) (refused told),
+      left-by (c .refused .ensures) ∙ ap (λ z. orBefore z (answer (c .refused .result))) (c .before .zero-state .ensures),
+    )
 
 enum-told : tie.Need-enum-told
 enum-told c = search needs
@@ -57,8 +61,10 @@ refused-requires-2 c κs = search needs
 returns-2 : tie.Need-returns-2
 returns-2 c =
     let told = c .before .before .before .before .before in
-    let a = start (told .before .before) .args in
-    c .refused2 .ensures .said ∙ kept-other dayLimits (a .text .now) (a .closed) (a .row .now) (accepted told) (c .before .before .if1 .taken)
+    let a = start (told .before .before) .args in (
+      c .refused2 .ensures .said ∙ kept-other dayLimits (a .text .now) (a .closed) (a .row .now) (accepted told) (c .before .before .if1 .taken),
+      left-by (c .refused2 .ensures) ∙ ap (λ z. orBefore z (answer (c .refused2 .result))) (c .before .zero-state2 .ensures),
+    )
 
 padded-requires : tie.Need-padded-requires
 padded-requires c κs =
@@ -72,8 +78,10 @@ taken-requires c κs = search needs
 returns-3 : tie.Need-returns-3
 returns-3 c =
     let told = c .before .before .before .before .before in
-    let a = start (told .before .before) .args in
-    c .taken .ensures zeroState .said ∙ kept-taken dayLimits (a .text .now) (a .closed) (a .row .now) (accepted told) (c .before .before .if1 .left) (c .before .padded .ensures)
+    let a = start (told .before .before) .args in (
+      c .taken .ensures zeroState .said ∙ kept-taken dayLimits (a .text .now) (a .closed) (a .row .now) (accepted told) (c .before .before .if1 .left) (c .before .padded .ensures),
+      left-by (c .taken .ensures zeroState),
+    )
 
 pub state-of-spec : {M : Type 1} → statement M
 state-of-spec =

@@ -38,10 +38,10 @@ space c = not-false _ (c .if2 .left)
 
 -- the two cases of the kept state
 unkept : (c : tie.After-verdict) → let s = start (roomy (c .before .before .before)) .args in keptState dayLimits (s .text .now) (s .closed) (s .row .now) ≡ refusal (c .verdict .given .0 .0)
-unkept c = let r = c .before .before .state-of in sym (r .ensures) ∙ ap (λ v. judged v (stateIn (r .result .state))) (c .verdict .given .1)
+unkept c = let r = c .before .before .state-of in sym (r .ensures .0) ∙ ap (λ v. judged v (stateIn (r .result .state))) (c .verdict .given .1)
 
 kept : (c : tie.After-enum-told) → let s = start (roomy (c .before .before .before)) .args in keptState dayLimits (s .text .now) (s .closed) (s .row .now) ≡ gives (stateIn (c .before .before .state-of .result .state))
-kept c = let r = c .before .before .state-of in sym (r .ensures) ∙ ap (λ v. judged v (stateIn (r .result .state))) (c .enum-told .given .1)
+kept c = let r = c .before .before .state-of in sym (r .ensures .0) ∙ ap (λ v. judged v (stateIn (r .result .state))) (c .enum-told .given .1)
 
 is-room-requires : tie.Need-is-room-requires
 is-room-requires c κs = search needs

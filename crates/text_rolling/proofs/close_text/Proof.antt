@@ -38,13 +38,13 @@ abbrev keeping : tie.After-verdict → tie.After-state-of
 keeping c = c .before .before
 
 unkept : (c : tie.After-verdict) → let s = start (keeping c .before) .args in keptState dayLimits (s .text .now) (s .closed) (s .row .now) ≡ refusal (c .verdict .given .0 .0)
-unkept c = let r = keeping c .state-of in sym (r .ensures) ∙ ap (λ v. judged v (stateIn (r .result .state))) (c .verdict .given .1)
+unkept c = let r = keeping c .state-of in sym (r .ensures .0) ∙ ap (λ v. judged v (stateIn (r .result .state))) (c .verdict .given .1)
 
 abbrev kept : tie.After-enum-told → tie.After-state-of
 kept c = c .before .before
 
 given : (c : tie.After-enum-told) → let s = start (kept c .before) .args in keptState dayLimits (s .text .now) (s .closed) (s .row .now) ≡ gives (stateIn (kept c .state-of .result .state))
-given c = let r = kept c .state-of in sym (r .ensures) ∙ ap (λ v. judged v (stateIn (r .result .state))) (c .enum-told .given .1)
+given c = let r = kept c .state-of in sym (r .ensures .0) ∙ ap (λ v. judged v (stateIn (r .result .state))) (c .enum-told .given .1)
 
 -- and of closing
 abbrev before-close : tie.After-close → tie.After-enum-told
