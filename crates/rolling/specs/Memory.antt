@@ -6,22 +6,15 @@ use mathlib.Core.Path.{_≡_, refl, sym, ap, _∙_, subst}
 use mathlib.Core.Bool.{Bool, true, false}
 use mathlib.Core.List.{List}
 use Prim.Native.Nat.{ℕ}
-use native.Mathlib.Omega.{arith}
 use lib.ListN.{length, drop}
 use Rattle.fold.specs.Test.{of-true}
 use Rattle.model.specs.Model.{Yard}
 use Rattle.day.specs.Answer.{Answer, gives, refuses, onGiven, Check, checked, holding}
-use Rattle.day.specs.AnswerLaws.{holding-all, checked-holds, Only}
+use Rattle.day.specs.AnswerLaws.{holding-all, checked-holds, Only, only-given}
 use Rattle.day.specs.declared.Limits.{Limits}
 use Rattle.planning.specs.Planning.{costArea, choiceArea, openWords, Stays}
 use Rattle.rolling.specs.Rolling.{Account, State, accountOf, stateOf, Change, edited, cut, bestPlan, change, stateChecks, stateAfter, begunAccount, begunChecks, begun, stateBegins, begunBegins}
 use Rattle.rolling.specs.Refusals.{OfPlanning, plan-only}
-
--- what a plan is made into is refused by planning alone
-made-refused : (a : Account) (r : Answer (List ℕ)) (k : ℕ) (carries : List ℕ) → Only OfPlanning r → onGiven r (λ plan. gives (stateOf a plan)) ≡ refuses k carries → OfPlanning k carries
-made-refused a (gives plan) k carries h e = absurd (let z : _≡_ {A = ℕ} 0 1 = cc in omega arith)
-made-refused a (refuses m brings) k carries h e =
-    subst (λ (x : Answer State). Only OfPlanning x) e h
 
 -- where all checks hold, a refusal is planning's; so after another one they do not
 not-begun : (checks : List Check) (a : Account) (r : Answer (List ℕ)) (k : ℕ) (carries : List ℕ) → Only OfPlanning r
@@ -31,7 +24,8 @@ not-begun checks a r k carries h e other = go (holding checks) refl
     go : (b : Bool) → holding checks ≡ b → holding checks ≡ false
     go false q = q
     go true q =
-        absurd (other (made-refused a r k carries h (sym (checked-holds checks (onGiven r λ plan. gives (stateOf a plan)) (holding-all checks (of-true q))) ∙ e)))
+        let made = onGiven r (λ plan. gives (stateOf a plan)) in
+        absurd (other (subst (Only OfPlanning) (sym (checked-holds checks made (holding-all checks (of-true q))) ∙ e) (only-given OfPlanning r (λ plan. gives (stateOf a plan)) h (λ plan p. tt))))
 
 -- ---- the two areas, where planning begins or not
 

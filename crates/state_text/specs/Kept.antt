@@ -1,20 +1,18 @@
 -- A state that is kept: what is written of it, read again, is the same state. So a program that stops can go on with the bytes that it has.
 --   kept-again     the day file, the closed slots and the plan of a sound state are kept as that state;
 --   kept-only      what is kept as a state has the day of its text, the closed slots that were given, and the row as its plan;
---   kept-whole, kept-refused, kept-eight   a text that reads to a day and a slot for each of its trains are a state; a text's refusal is
---                  handed on; 8 where the row has another length;
+--   kept-whole     a text that reads to a day and a slot for each of its trains are a state (Laws.antt has the other cases);
 --   written-again  the first bytes of lent output, as many as the numbers say, are kept as the state that was given;
 --   told-given, told-one, told-three, told-none, day-beyond, plan-beyond, refused-stays   what the header says of numbers and lent output.
 -- Assumes nothing.
 use mathlib.Core.Path.{_≡_, refl, sym, ap, ap₂, _∙_, subst}
 use mathlib.Core.List.{List, [], _∷_, _++_}
-use mathlib.Core.Logic.{_≢_}
 use Prim.Native.Nat.{ℕ, _≤_, _<_}
 use native.Mathlib.Omega.{arith}
 use lib.Dec.{T, eqb, eqb→eq}
 use lib.ListN.{length, take, drop}
 use lib.Seq.{take-append-seam, drop-append-seam, length-take-le}
-use borrow.Author.Tests.{eq-eqb, ne-eqb, le-leb, lt-leb}
+use borrow.Author.Tests.{eq-eqb, le-leb, lt-leb}
 use Rattle.fold.specs.Column.{column, column-at, column-ext, is-column}
 use Rattle.model.specs.Model.{Yard, slotOf}
 use Rattle.day.specs.Answer.{Answer, gives, refuses, must, checked}
@@ -27,6 +25,7 @@ use Rattle.dayfile.specs.RoundTrip.{write-read}
 use Rattle.rolling.specs.Rolling.{State, planOf, stateSound}
 use Rattle.rolling.specs.States.{sound-state, plan-at}
 use Rattle.state_text.specs.StateText.{stateWith, keptState, stateNumbers, dayAfter, planAfter}
+use Rattle.state_text.specs.Laws.{kept-given}
 
 module _ (l : Limits) (short : Short l) (s : State) (t : T (stateSound l s)) where
   -- the plan has a slot for each train
@@ -78,22 +77,11 @@ kept-only l text closed row s e =
       slots = λ i a b. column-at (y .width) (y .trains) (slotOf row) i b (omega arith);
     })
 
-module _ (l : Limits) (text : List ℕ) (closed : ℕ) (row : List ℕ) where
-  pub kept-refused : (k : ℕ) (carries : List ℕ) → readDay l text ≡ refuses k carries → keptState l text closed row ≡ refuses k carries
-  unfolding keptState
-  kept-refused k carries e = rw e
-
-  module _ (y : Yard) (reads : readDay l text ≡ gives y) where
-    pub kept-eight : length row ≢ y .trains → keptState l text closed row ≡ refuses 8 (0 ∷ [])
-    unfolding keptState
-    kept-eight h = rw (reads, ne-eqb (length row) (y .trains) h)
-
-    given : length row ≡ y .trains → keptState l text closed row ≡ gives (stateWith y closed row)
-    unfolding keptState
-    given h = rw (reads, eq-eqb (length row) (y .trains) h)
-
-    pub kept-whole : length row ≡ y .trains → (s : State) × ((keptState l text closed row ≡ gives s) × KeptOnly l text closed row s)
-    kept-whole h = (stateWith y closed row, (given h, kept-only l text closed row (stateWith y closed row) (given h)))
+pub kept-whole : (l : Limits) (text : List ℕ) (closed : ℕ) (row : List ℕ) (y : Yard) → readDay l text ≡ gives y → length row ≡ y .trains
+    → (s : State) × ((keptState l text closed row ≡ gives s) × KeptOnly l text closed row s)
+kept-whole l text closed row y reads h =
+    let e = kept-given l text closed row reads h in
+    (stateWith y closed row, (e, kept-only l text closed row (stateWith y closed row) e))
 
 -- ---- the header's words: four numbers, or what the refusal carries and then zeros; those beyond stay. Lent output: the bytes that the numbers
 -- say, and those beyond stay, after a refusal all

@@ -23,7 +23,8 @@ use Rattle.planning.specs.Planning.{costArea, choiceArea, openWords, Stays}
 use Rattle.rolling.specs.Rolling.{State, Change, close, change, stateAfter, begun, stateBegins, begunBegins}
 use Rattle.rolling.specs.Memory.{Areas, change-memory, begin-memory}
 use Rattle.state_text.specs.StateText.{keptState}
-use Rattle.state_text.specs.Kept.{KeptOnly, kept-refused, kept-eight, kept-whole}
+use Rattle.state_text.specs.Laws.{kept-refused, kept-eight}
+use Rattle.state_text.specs.Kept.{KeptOnly, kept-whole}
 use Rattle.text_rolling.specs.TextRolling.{planRoom, stateRoom, withRoom, beginFor, closeFor, changeFor, beginOpens, changeOpens}
 
 -- ---- room, in the header's numbers
@@ -76,12 +77,12 @@ module _ (text : List ℕ) (closed : ℕ) (row : List ℕ) (size : ℕ) where
   module _ (room : 4 ≤ size) where
     pub close-unread : (k : ℕ) (carries : List ℕ) → readDay dayLimits text ≡ refuses k carries → closeFor dayLimits text closed row size ≡ refuses k carries
     unfolding closeFor
-    close-unread k carries e = rw (le-leb 4 size room, kept-refused dayLimits text closed row k carries e)
+    close-unread k carries e = rw (le-leb 4 size room, kept-refused dayLimits text closed row e)
 
     module _ (y : Yard) (reads : readDay dayLimits text ≡ gives y) where
       pub close-row : length row ≢ y .trains → closeFor dayLimits text closed row size ≡ refuses 8 (0 ∷ [])
       unfolding closeFor
-      close-row h = rw (le-leb 4 size room, kept-eight dayLimits text closed row y reads h)
+      close-row h = rw (le-leb 4 size room, kept-eight dayLimits text closed row reads h)
 
       pub close-read : length row ≡ y .trains → (s : State) × ((closeFor dayLimits text closed row size ≡ stateAfter dayLimits s close) × KeptOnly dayLimits text closed row s)
       close-read h = let (s, (e, k)) = kept-whole dayLimits text closed row y reads h in (s, (on s e, k))
@@ -97,12 +98,12 @@ module _ (text : List ℕ) (closed : ℕ) (row : List ℕ) (c : Change) (costs c
   module _ (room : StateRoom bytes slots size) where
     pub change-unread : (k : ℕ) (carries : List ℕ) → readDay dayLimits text ≡ refuses k carries → changeFor dayLimits text closed row c costs choices bytes slots size ≡ refuses k carries
     unfolding changeFor
-    change-unread k carries e = rw (state-true bytes slots size room, kept-refused dayLimits text closed row k carries e)
+    change-unread k carries e = rw (state-true bytes slots size room, kept-refused dayLimits text closed row e)
 
     module _ (y : Yard) (reads : readDay dayLimits text ≡ gives y) where
       pub change-row : length row ≢ y .trains → changeFor dayLimits text closed row c costs choices bytes slots size ≡ refuses 8 (0 ∷ [])
       unfolding changeFor
-      change-row h = rw (state-true bytes slots size room, kept-eight dayLimits text closed row y reads h)
+      change-row h = rw (state-true bytes slots size room, kept-eight dayLimits text closed row reads h)
 
       pub change-read : length row ≡ y .trains
           → (s : State) × ((changeFor dayLimits text closed row c costs choices bytes slots size ≡ stateAfter dayLimits s (change c costs choices)) × KeptOnly dayLimits text closed row s)

@@ -5,10 +5,10 @@
 --   add-returns     yard_add: 0 to 7, 15, 8, 10, 19, 9 or 16;
 --   boxes-returns   yard_set_boxes: 0 to 7, 15, 8, 10 or 18, never 9 or 16.
 -- (3, 5 and 6 may be the text's or the call's; then 0 is carried.) Without room for what is told they return 10, whatever the text is:
---   begin-no-room, close-no-room, change-no-room
+-- `begin-short` and its kin, Header.antt of text_rolling.
 -- Assumes nothing.
 use mathlib.Core.Path.{_≡_, refl, sym, subst}
-use mathlib.Core.Bool.{Bool, false}
+use mathlib.Core.Bool.{Bool}
 use mathlib.Core.List.{List, [], _∷_}
 use mathlib.Core.Logic.{_⊎_, inl, inr}
 use Prim.Native.Nat.{ℕ, _≤_, zero-le}
@@ -155,18 +155,3 @@ module _ (text : List ℕ) (closed : ℕ) (row : List ℕ) (costs choices bytes 
       go k carries (inl (inr (inr (inr (inl (e, c)))))) = own-number OwnAdd 19 k e (inr (inr (inl refl)))
       go k carries (inl (inr (inr (inr (inr (inl (e, c))))))) = small OwnAdd 5 k e (omega arith)
       go k carries (inr p) = planned-by OwnAdd (inr (inr (inr (inl refl)))) (inr (inr (inr (inr refl)))) k carries p
-
--- ---- no room for what is told
-
-module _ (text : List ℕ) (closed : ℕ) (row : List ℕ) where
-  pub begin-no-room : (costs choices slots size : ℕ) → planRoom dayLimits slots size ≡ false → code (beginFor dayLimits text costs choices slots size) ≡ 10
-  unfolding beginFor
-  begin-no-room costs choices slots size h = rw h
-
-  pub close-no-room : (size : ℕ) → leb numberCount size ≡ false → code (closeFor dayLimits text closed row size) ≡ 10
-  unfolding closeFor
-  close-no-room size h = rw h
-
-  pub change-no-room : (c : Change) (costs choices bytes slots size : ℕ) → stateRoom dayLimits bytes slots size ≡ false → code (changeFor dayLimits text closed row c costs choices bytes slots size) ≡ 10
-  unfolding changeFor
-  change-no-room c costs choices bytes slots size h = rw h

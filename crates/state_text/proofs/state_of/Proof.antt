@@ -11,7 +11,7 @@ use Rattle.dayfile.specs.RoundTrip.{read-sound}
 use Rattle.rolling.specs.Rolling.{orBefore}
 use Rattle.rolling_state.specs.States.{answer, zeroState}
 use Rattle.rolling_state.specs.Laws.{left-by}
-use Rattle.state_text.specs.Laws.{kept-unread, kept-other, kept-taken}
+use Rattle.state_text.specs.Laws.{kept-refused, kept-eight, kept-taken}
 use Rattle.state_text.proofs.state_of.Statement.{statement}
 use Rattle.state_text.proofs.state_of.Tie as tie
 
@@ -45,7 +45,7 @@ returns : tie.Need-returns
 returns c =
     let told = c .before .before .before in
     let a = start (told .before .before) .args in (
-      c .refused .ensures .said ∙ kept-unread dayLimits (a .text .now) (a .closed) (a .row .now) (refused told),
+      c .refused .ensures .said ∙ sym (kept-refused dayLimits (a .text .now) (a .closed) (a .row .now) (refused told)),
       left-by (c .refused .ensures) ∙ ap (λ z. orBefore z (answer (c .refused .result))) (c .before .zero-state .ensures),
     )
 
@@ -62,7 +62,7 @@ returns-2 : tie.Need-returns-2
 returns-2 c =
     let told = c .before .before .before .before .before in
     let a = start (told .before .before) .args in (
-      c .refused2 .ensures .said ∙ kept-other dayLimits (a .text .now) (a .closed) (a .row .now) (accepted told) (c .before .before .if1 .taken),
+      c .refused2 .ensures .said ∙ sym (kept-eight dayLimits (a .text .now) (a .closed) (a .row .now) (accepted told) (c .before .before .if1 .taken)),
       left-by (c .refused2 .ensures) ∙ ap (λ z. orBefore z (answer (c .refused2 .result))) (c .before .zero-state2 .ensures),
     )
 
