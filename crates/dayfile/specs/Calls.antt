@@ -8,7 +8,7 @@ use native.Mathlib.Omega.{arith}
 use lib.Dec.{T}
 use lib.ListN.{length, take}
 use Rattle.model.specs.Model.{Yard}
-use Rattle.day.specs.Answer.{Answer, gives, refuses, Check, must}
+use Rattle.day.specs.Answer.{Answer, gives, whereGiven, Check, must}
 use Rattle.day.specs.Sound.{zeroDay, sound}
 use Rattle.day.specs.declared.Limits.{Limits}
 use Rattle.output.specs.Output.{writes, leaves}
@@ -20,8 +20,7 @@ use Rattle.dayfile.specs.RoundTrip.{write-read, read-write, read-sound}
 -- ---- reading: the day, or with a refusal a record of zeros
 
 abbrev pub dayOrZero : Limits → Answer Yard → Yard
-dayOrZero l (gives y) = y
-dayOrZero l (refuses k carried) = zeroDay l
+dayOrZero l a = whereGiven a (zeroDay l) λ y. y
 
 -- ---- writing: check 8, then the text of the day is written into the output (`writes` and `leaves`)
 

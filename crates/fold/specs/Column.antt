@@ -23,9 +23,12 @@ use Rattle.fold.specs.Listed.{listed, length-listed, listed-at, listed-a
 unfoldable pub column : ℕ → ℕ → (ℕ → ℕ) → List ℕ
 column w m f = listed w λ i. cond (ltb i m) (f i) 0
 
--- what f gives to the pairs of the first m of w positions, and 0 elsewhere; row after row
+-- what f gives to the pairs of the first m of w positions, and 0 elsewhere; row after row, so that entry q is that of row q / w
+unfoldable pub tableEntry : ℕ → ℕ → (ℕ → ℕ → ℕ) → ℕ → ℕ
+tableEntry w m f q = cond (ltb (q / w) m && ltb (q % w) m) (f (q / w) (q % w)) 0
+
 unfoldable pub table : ℕ → ℕ → (ℕ → ℕ → ℕ) → List ℕ
-table w m f = listed (w * w) λ q. cond (ltb (q / w) m && ltb (q % w) m) (f (q / w) (q % w)) 0
+table w m f = listed (w * w) (tableEntry w m f)
 
 -- ---- a column
 
@@ -98,10 +101,6 @@ column-end w k n f e a b = e ∙ at-end (λ k. column w k f) k n a b
 
 -- ---- a table
 
--- the entry q of a table that is stored row after row
-unfoldable pub tableEntry : ℕ → ℕ → (ℕ → ℕ → ℕ) → ℕ → ℕ
-tableEntry w m f q = cond (ltb (q / w) m && ltb (q % w) m) (f (q / w) (q % w)) 0
-
 pub entry-in : (w m : ℕ) (f : ℕ → ℕ → ℕ) (q : ℕ) → q / w < m → q % w < m → tableEntry w m f q ≡ f (q / w) (q % w)
 unfolding tableEntry
 entry-in w m f q a b = rw (lt-ltb (q / w) m a, lt-ltb (q % w) m b)
@@ -116,30 +115,28 @@ entry-column-past w m f q a b = rw (lt-ltb (q / w) m a, le-ltb (q % w) m b)
 
 -- a table is the column of its entries
 pub table-column : (w m : ℕ) (f : ℕ → ℕ → ℕ) → column (w * w) (w * w) (tableEntry w m f) ≡ table w m f
-unfolding column table tableEntry
+unfolding column table
 table-column w m f =
     listed-ext (w * w) (λ q. cond (ltb q (w * w)) (tableEntry w m f q) 0) (tableEntry w m f) (λ q h. ap (λ b. cond b (tableEntry w m f q) 0) (lt-ltb q (w * w) h))
 
 pub table-ext : (w m : ℕ) (f g : ℕ → ℕ → ℕ) → ((i j : ℕ) → i < m → j < m → f i j ≡ g i j) → table w m f ≡ table w m g
 unfolding table
-table-ext w m f g e =
-    listed-ext (w * w) (λ q. cond (ltb (q / w) m && ltb (q % w) m) (f (q / w) (q % w)) 0) (λ q. cond (ltb (q / w) m && ltb (q % w) m) (g (q / w) (q % w)) 0)
-    (λ q h. at (q / w) (q % w) (le-or-lt m (q / w)) (le-or-lt m (q % w)))
+table-ext w m f g e = listed-ext (w * w) (tableEntry w m f) (tableEntry w m g) (λ q h. at q (le-or-lt m (q / w)) (le-or-lt m (q % w)))
   where
-    at : (i j : ℕ) → (m ≤ i) ⊎ (i < m) → (m ≤ j) ⊎ (j < m) → cond (ltb i m && ltb j m) (f i j) 0 ≡ cond (ltb i m && ltb j m) (g i j) 0
-    at i j (inl a) b = rw (le-ltb i m a)
-    at i j (inr a) (inl b) = rw (lt-ltb i m a, le-ltb j m b)
-    at i j (inr a) (inr b) = rw (lt-ltb i m a, lt-ltb j m b, e i j a b)
+    at : (q : ℕ) → (m ≤ q / w) ⊎ (q / w < m) → (m ≤ q % w) ⊎ (q % w < m) → tableEntry w m f q ≡ tableEntry w m g q
+    at q (inl a) b = entry-row-past w m f q a ∙ sym (entry-row-past w m g q a)
+    at q (inr a) (inl b) = entry-column-past w m f q a b ∙ sym (entry-column-past w m g q a b)
+    at q (inr a) (inr b) = entry-in w m f q a b ∙ e (q / w) (q % w) a b ∙ sym (entry-in w m g q a b)
 
 module _ (w m : ℕ) (f : ℕ → ℕ → ℕ) where
   pub table-length : length (table w m f) ≡ w * w
   unfolding table
-  table-length = length-listed (w * w) λ q. cond (ltb (q / w) m && ltb (q % w) m) (f (q / w) (q % w)) 0
+  table-length = length-listed (w * w) (tableEntry w m f)
 
   pub table-cell : (i j : ℕ) → i < w → j < w → getD (table w m f) (i * w + j) 0 ≡ cond (ltb i m && ltb j m) (f i j) 0
-  unfolding table
+  unfolding table tableEntry
   table-cell i j hi hj =
-      listed-at (w * w) (λ q. cond (ltb (q / w) m && ltb (q % w) m) (f (q / w) (q % w)) 0) 0 (i * w + j) (digits-lt {q = i} {m = w} {r = j} {c = w} hi hj)
+      listed-at (w * w) (tableEntry w m f) 0 (i * w + j) (digits-lt {q = i} {m = w} {r = j} {c = w} hi hj)
       ∙ ap₂ (λ a b. cond (ltb a m && ltb b m) (f a b) 0) (digits-div i {m = w} {r = j} hj) (digits-mod i {m = w} {r = j} hj)
 
   pub table-at : (i j : ℕ) → i < w → j < w → i < m → j < m → getD (table w m f) (i * w + j) 0 ≡ f i j
@@ -157,23 +154,23 @@ pub is-table : (w m : ℕ) (l : List ℕ) → length l ≡ w * w
     → ((i j : ℕ) → i < w → j < w → (m ≤ i) ⊎ (m ≤ j) → getD l (i * w + j) 0 ≡ 0) → table w m (λ i j. getD l (i * w + j) 0) ≡ l
 unfolding table
 is-table w m l long past =
-    subst (λ k. listed k (λ q. cond (ltb (q / w) m && ltb (q % w) m) (getD l (q / w * w + q % w) 0) 0) ≡ l) long
-    (listed-ext (length l) (λ q. cond (ltb (q / w) m && ltb (q % w) m) (getD l (q / w * w + q % w) 0) 0) (λ q. getD l q 0) (λ q h. at q (omega (arith, long))) ∙ listed-all l 0)
+    subst (λ k. listed k (tableEntry w m f) ≡ l) long
+    (listed-ext (length l) (tableEntry w m f) (λ q. getD l q 0) (λ q h. at q (omega (arith, long))) ∙ listed-all l 0)
   where
-    whole : (q : ℕ) → q / w * w + q % w ≡ q
-    whole q = omega (arith, div-add-mod q w, mul-comm (q / w) w)
+    f : ℕ → ℕ → ℕ
+    f i j = getD l (i * w + j) 0
 
-    at : (q : ℕ) → q < w * w → cond (ltb (q / w) m && ltb (q % w) m) (getD l (q / w * w + q % w) 0) 0 ≡ getD l q 0
+    same : (q : ℕ) → f (q / w) (q % w) ≡ getD l q 0
+    same q = ap (λ k. getD l k 0) (let e : q / w * w + q % w ≡ q = omega (arith, div-add-mod q w, mul-comm (q / w) w) in e)
+
+    at : (q : ℕ) → q < w * w → tableEntry w m f q ≡ getD l q 0
     at q h =
         let above : 0 < w = ⊎-elim (λ (z : w ≤ 0). let e : w ≡ 0 = omega arith in absurd (let g : q < 0 = subst (λ k. q < k * k) e h in omega arith)) (λ (z : 0 < w). z) (le-or-lt w 0) in
         let row : q / w < w = div-lt-iff-lt-mul above .1 h in
         let column : q % w < w = mod-lt q above in
         go (le-or-lt m (q / w)) (le-or-lt m (q % w)) row column
       where
-        same : getD l (q / w * w + q % w) 0 ≡ getD l q 0
-        same = ap (λ k. getD l k 0) (whole q)
-
-        go : (m ≤ q / w) ⊎ (q / w < m) → (m ≤ q % w) ⊎ (q % w < m) → q / w < w → q % w < w → cond (ltb (q / w) m && ltb (q % w) m) (getD l (q / w * w + q % w) 0) 0 ≡ getD l q 0
-        go (inl a) b r c = rw (le-ltb (q / w) m a) (sym (past (q / w) (q % w) r c (inl a)) ∙ same)
-        go (inr a) (inl b) r c = rw (lt-ltb (q / w) m a, le-ltb (q % w) m b) (sym (past (q / w) (q % w) r c (inr b)) ∙ same)
-        go (inr a) (inr b) r c = rw (lt-ltb (q / w) m a, lt-ltb (q % w) m b) same
+        go : (m ≤ q / w) ⊎ (q / w < m) → (m ≤ q % w) ⊎ (q % w < m) → q / w < w → q % w < w → tableEntry w m f q ≡ getD l q 0
+        go (inl a) b r c = entry-row-past w m f q a ∙ sym (past (q / w) (q % w) r c (inl a)) ∙ same q
+        go (inr a) (inl b) r c = entry-column-past w m f q a b ∙ sym (past (q / w) (q % w) r c (inr b)) ∙ same q
+        go (inr a) (inr b) r c = entry-in w m f q a b ∙ same q

@@ -11,7 +11,7 @@ use lib.ListN.{length, getD, take, set, replicate}
 use Rattle.fold.specs.Fold.{each, lowest}
 use Rattle.model.specs.Model.{Yard, received, firstSlot, lastSlot, slotOf, cost, allowed, precedes}
 use Rattle.model.specs.BestOf.{bestOf}
-use Rattle.day.specs.Answer.{Answer, gives, refuses, onGiven, Check, must, checked, holding}
+use Rattle.day.specs.Answer.{Answer, gives, onGiven, whereGiven, Check, must, checked, holding}
 use Rattle.day.specs.Sound.{range, between, within, trainRanges, sound}
 use Rattle.day.specs.declared.Limits.{Limits}
 use Rattle.planning.specs.Planning.{costArea, choiceArea, bestRow}
@@ -289,8 +289,7 @@ begunBegins l y costs choices = holding (begunChecks l y costs choices)
 -- ---- a list of calls: a refused one leaves things as before
 
 abbrev pub orBefore : {X : Type 0} → X → Answer X → X
-orBefore x (gives z) = z
-orBefore x (refuses k carries) = x
+orBefore x a = whereGiven a x λ z. z
 
 abbrev pub states : Limits → State → List Call → State
 states l s [] = s
