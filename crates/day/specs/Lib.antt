@@ -4,3 +4,4 @@ pub mod Sound
 pub mod SoundLaws
 pub mod Most
 pub mod SoundDay
+pub mod Reweighed

@@ -57,27 +57,31 @@ revisits-most n a row = count-bound (revisiting n a row) n
 
 -- ---- a sound day
 
+pub sound-boxes : (l : Limits) (y : Yard) → Sound l y → allBoxes (y .trains) (received y) ≤ mostBoxes l
+unfolding mostBoxes
+sound-boxes l y s =
+    let fewer : y .trains - 1 ≤ l .trains - 1 = omega (arith, s .trains .1) in
+    le-trans (boxes-most (y .trains) (l .boxes) (received y) (s .boxes) (s .own)) (mul-le-mul (s .trains .1) (mul-le-mul fewer (le-refl (l .boxes))))
+
 module _ (l : Limits) (y : Yard) (row : List ℕ) (s : Sound l y) where
   pub sound-revisits : outcome y row .revisits ≤ l .trains
   sound-revisits = le-trans (revisits-most (y .trains) (received y) row) (s .trains .1)
 
-  pub sound-boxes : allBoxes (y .trains) (received y) ≤ mostBoxes l
-  unfolding mostBoxes
-  sound-boxes =
-      let fewer : y .trains - 1 ≤ l .trains - 1 = omega (arith, s .trains .1) in
-      le-trans (boxes-most (y .trains) (l .boxes) (received y) (s .boxes) (s .own)) (mul-le-mul (s .trains .1) (mul-le-mul fewer (le-refl (l .boxes))))
-
   pub sound-splits : outcome y row .splits ≤ mostBoxes l
-  sound-splits = le-trans (splits-boxes (y .trains) (received y) row) sound-boxes
+  sound-splits = le-trans (splits-boxes (y .trains) (received y) row) (sound-boxes l y s)
 
   pub sound-direct : outcome y row .direct ≤ mostBoxes l
-  sound-direct = le-trans (direct-boxes (y .trains) (received y) row) sound-boxes
+  sound-direct = le-trans (direct-boxes (y .trains) (received y) row) (sound-boxes l y s)
 
   pub sound-cost : outcome y row .cost ≤ mostCost l
   unfolding mostCost weighed
   sound-cost = add-le-add (mul-le-mul (s .weights .0) sound-revisits) (mul-le-mul (s .weights .1) sound-splits)
 
 -- ---- with the limits of 01
+
+pub day-most-boxes : mostBoxes dayLimits ≡ 33660
+unfolding mostBoxes
+day-most-boxes = refl
 
 pub day-most-cost : mostCost dayLimits ≡ 2206694520
 unfolding mostCost mostBoxes weighed

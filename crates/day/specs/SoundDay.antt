@@ -87,19 +87,22 @@ module _ (l : Limits) (y : Yard) where
 
   -- ---- to the test
 
-  module _ (s : SoundDay l y) where
-    in-range : (a x b : ℕ) → a ≤ x → x ≤ b → T (leb a x && leb x b)
-    in-range a x b h k = both (leb a x) (leb x b) (le→leb a x h) (le→leb x b k)
+  in-range : (a x b : ℕ) → a ≤ x → x ≤ b → T (leb a x && leb x b)
+  in-range a x b h k = both (leb a x) (leb x b) (le→leb a x h) (le→leb x b k)
 
+  pub head-within : (1 ≤ y .trains) × (y .trains ≤ l .trains) → (1 ≤ y .tracks) × (y .tracks ≤ l .tracks) → (1 ≤ y .slots) × (y .slots ≤ l .slots)
+      → (y .revisit ≤ l .weight) × (y .split ≤ l .weight) → T (within (headRanges l) (headRow y))
+  unfolding within headRanges
+  head-within trains tracks slots weights =
+      both (leb 1 (y .trains) && leb (y .trains) (l .trains)) _ (in-range 1 (y .trains) (l .trains) (trains .0) (trains .1))
+      (both (leb 1 (y .tracks) && leb (y .tracks) (l .tracks)) _ (in-range 1 (y .tracks) (l .tracks) (tracks .0) (tracks .1))
+      (both (leb 1 (y .slots) && leb (y .slots) (l .slots)) _ (in-range 1 (y .slots) (l .slots) (slots .0) (slots .1))
+      (both (leb 0 (y .revisit) && leb (y .revisit) (l .weight)) _ (in-range 0 (y .revisit) (l .weight) (omega arith) (weights .0))
+      (both (leb 0 (y .split) && leb (y .split) (l .weight)) true (in-range 0 (y .split) (l .weight) (omega arith) (weights .1)) tt))))
+
+  module _ (s : SoundDay l y) where
     head-passes : T (within (headRanges l) (headRow y))
-    unfolding within headRanges
-    head-passes =
-        let d = s .limits in
-        both (leb 1 (y .trains) && leb (y .trains) (l .trains)) _ (in-range 1 (y .trains) (l .trains) (d .trains .0) (d .trains .1))
-        (both (leb 1 (y .tracks) && leb (y .tracks) (l .tracks)) _ (in-range 1 (y .tracks) (l .tracks) (d .tracks .0) (d .tracks .1))
-        (both (leb 1 (y .slots) && leb (y .slots) (l .slots)) _ (in-range 1 (y .slots) (l .slots) (d .slots .0) (d .slots .1))
-        (both (leb 0 (y .revisit) && leb (y .revisit) (l .weight)) _ (in-range 0 (y .revisit) (l .weight) (omega arith) (d .weights .0))
-        (both (leb 0 (y .split) && leb (y .split) (l .weight)) true (in-range 0 (y .split) (l .weight) (omega arith) (d .weights .1)) tt))))
+    head-passes = let d = s .limits in head-within (d .trains) (d .tracks) (d .slots) (d .weights)
 
     number-rises : (i : ℕ) → i < y .trains → numberBefore (y .numbers) i < numberAt y i
     unfolding numberBefore

@@ -2,15 +2,21 @@
 -- (`line-holds`).
 -- Assumes nothing.
 use mathlib.Core.Path.{_≡_, refl, ap, ap₂, subst₂}
-use mathlib.Core.Bool.{Bool, true, false, not, cond, _&&_}
+use mathlib.Core.Bool.{Bool, true, false, not, cond, _&&_, _||_}
+use mathlib.Core.Logic.{⊎-elim}
 use mathlib.Core.Option.{Option, none, some}
 use mathlib.Core.List.{List}
-use Prim.Native.Nat.{ℕ}
-use lib.Dec.{T, eqb, eqb→eq}
+use Prim.Native.Nat.{ℕ, _≤_}
+use native.Mathlib.Omega.{arith}
+use lib.Dec.{T, ltb, leb, eqb, ltb→lt, leb→le, eqb→eq}
 use lib.IntN.{ℤ, pos, negsuc}
-use Rattle.fold.specs.Test.{is-true, is-false, both-of, not-of, sameList, same-list}
-use Rattle.model.specs.Model.{Yard, Outcome, outcome, cost, allowed, precedes, Best, NoRow, overbooked, FirstOverbooked, boundInside}
+use borrow.Author.Tests.{eq-eqb}
+use Rattle.fold.specs.Test.{is-true, of-true, is-false, both, both-of, either-of, not-of, sameList, same-list}
+use Rattle.fold.specs.Table.{allPass, all-hold}
+use Rattle.model.specs.Model.{Yard, received, allBoxes, Outcome, outcome, cost, allowed, precedes, Best, NoRow, overbooked, FirstOverbooked, boundInside}
+use Rattle.model.specs.Rows.{allRows, allowed-listed}
 use Rattle.model.specs.BestOf.{bestOf, is-best, is-none}
+use Rattle.model.specs.Fewest.{SumWeights, Fewest}
 use Rattle.model.specs.Overbooked.{Interval, firstOverbooked, first-says, SaysFirst}
 use Rattle.day.specs.Answer.{Answer, gives, refuses}
 use Rattle.day.specs.Sound.{dayLimits, yard, sound}
@@ -29,6 +35,8 @@ pub data Line : Type 0 where
   later : Day → List ℕ → List ℕ → ℕ → Line
   refused : Day → ℕ → ℕ → ℕ → Line
   unkept : Day → Line
+  summed : Day → Bool → Line
+  fewest : Day → List ℕ → ℕ → ℕ → Line
   accepted : Day → Bool → Line
   plans : Day → ℕ → ℕ → ℕ → Answer Outcome → Line
   compares : (Yard → List ℕ) → Day → List ℕ → Answer Comparison → Line
@@ -46,6 +54,11 @@ Holds (later d r s c) =
 Holds (refused d a b k) = NoRow (yard d) × FirstOverbooked (yard d) a b × (boundInside (yard d) a b ≡ k)
 -- no row is allowed, and no interval is overbooked
 Holds (unkept d) = NoRow (yard d) × ((a b : ℕ) → T (overbooked (yard d) a b) → ⊥)
+-- the day has the weights of order 8, or not
+Holds (summed d true) = SumWeights (yard d)
+Holds (summed d false) = SumWeights (yard d) → ⊥
+-- the row has the fewest revisits of all allowed rows, and the fewest split moves of those that share this fewest: so many of each
+Holds (fewest d row r s) = Fewest (yard d) row × (outcome (yard d) row .revisits ≡ r) × (outcome (yard d) row .splits ≡ s)
 -- the record is sound, or not
 Holds (accepted d b) = sound dayLimits (yard d) ≡ b
 -- planning, lent so many words of cost, words of choice and bytes of row, gives this answer
@@ -92,6 +105,18 @@ unfoldable pub noInterval : Option Interval → Bool
 noInterval none = true
 noInterval (some w) = false
 
+unfoldable pub sumWeights : Yard → Bool
+sumWeights y = eqb (y .revisit) (allBoxes (y .trains) (received y)) && eqb (y .split) 1
+
+-- another row that is allowed has more revisits, or as many and no fewer split moves
+unfoldable pub noFewer : Yard → List ℕ → List ℕ → Bool
+noFewer y row other =
+    not (allowed y other) || ltb (outcome y row .revisits) (outcome y other .revisits)
+    || (eqb (outcome y row .revisits) (outcome y other .revisits) && leb (outcome y row .splits) (outcome y other .splits))
+
+unfoldable pub isFewest : Yard → List ℕ → Bool
+isFewest y row = allowed y row && allPass (noFewer y row) (allRows (y .trains) (y .slots))
+
 unfoldable pub passes : Line → Bool
 passes (values d row a) = sameAnswer sameOutcome (valued dayLimits (yard d) row) a
 passes (best d row o) = isRow (bestOf (yard d)) row && sameOutcome (outcome (yard d) row) o
@@ -99,6 +124,8 @@ passes (later d r s c) =
     allowed (yard d) r && allowed (yard d) s && eqb (cost (yard d) r) c && eqb (cost (yard d) s) c && precedes (yard d) r s
 passes (refused d a b k) = isNone (bestOf (yard d)) && isInterval (firstOverbooked (yard d)) a b && eqb (boundInside (yard d) a b) k
 passes (unkept d) = isNone (bestOf (yard d)) && noInterval (firstOverbooked (yard d))
+passes (summed d b) = cond b (sumWeights (yard d)) (not (sumWeights (yard d)))
+passes (fewest d row r s) = isFewest (yard d) row && eqb (outcome (yard d) row .revisits) r && eqb (outcome (yard d) row .splits) s
 passes (plans d costs choices bytes a) = sameAnswer sameOutcome (planned dayLimits (yard d) costs choices bytes) a
 passes (accepted d b) = cond b (sound dayLimits (yard d)) (not (sound dayLimits (yard d)))
 passes (compares procedure d row a) =
@@ -191,6 +218,53 @@ module _ (d : Day) where
       let (q, w) = both-of (isNone (bestOf y)) (noInterval (firstOverbooked y)) t in
       (is-none y (no-row (bestOf y) q), none-over (firstOverbooked y) (first-says y) w)
 
+  summed-holds : (b : Bool) → T (passes (summed d b)) → Holds (summed d b)
+  unfolding passes sumWeights
+  summed-holds true t =
+      let y = yard d in
+      let boxes = allBoxes (y .trains) (received y) in
+      let (v, w) = both-of (eqb (y .revisit) boxes) (eqb (y .split) 1) t in
+      (eqb→eq (y .revisit) boxes v, eqb→eq (y .split) 1 w)
+  summed-holds false t =
+      let y = yard d in
+      let boxes = allBoxes (y .trains) (received y) in
+      λ h. not-of (sumWeights y) t (both (eqb (y .revisit) boxes) (eqb (y .split) 1) (of-true (eq-eqb (y .revisit) boxes (h .0))) (of-true (eq-eqb (y .split) 1 (h .1))))
+
+  -- what the test of another row says of an allowed one
+  no-fewer : (row other : List ℕ) → T (noFewer (yard d) row other) → T (allowed (yard d) other)
+      → (outcome (yard d) row .revisits ≤ outcome (yard d) other .revisits)
+      × (outcome (yard d) other .revisits ≡ outcome (yard d) row .revisits → outcome (yard d) row .splits ≤ outcome (yard d) other .splits)
+  unfolding noFewer
+  no-fewer row other t a =
+      let y = yard d in
+      let p = outcome y row in
+      let q = outcome y other in
+      ⊎-elim
+      (λ u.
+      ⊎-elim (λ v. absurd (not-of (allowed y other) v a))
+      (λ (v : T (ltb (p .revisits) (q .revisits))). let l = ltb→lt (p .revisits) (q .revisits) v in (omega arith, λ e. omega arith))
+      (either-of (not (allowed y other)) (ltb (p .revisits) (q .revisits)) u))
+      (λ u.
+      let (v, w) = both-of (eqb (p .revisits) (q .revisits)) (leb (p .splits) (q .splits)) u in
+      let same = eqb→eq (p .revisits) (q .revisits) v in
+      (omega arith, λ e. leb→le (p .splits) (q .splits) w))
+      (either-of (not (allowed y other) || ltb (p .revisits) (q .revisits)) (eqb (p .revisits) (q .revisits) && leb (p .splits) (q .splits)) t)
+
+  fewest-holds : (row : List ℕ) (r s : ℕ) → T (passes (fewest d row r s)) → Holds (fewest d row r s)
+  unfolding passes isFewest
+  fewest-holds row r s t =
+      let y = yard d in
+      let (u, splits) = both-of (isFewest y row && eqb (outcome y row .revisits) r) (eqb (outcome y row .splits) s) t in
+      let (v, revisits) = both-of (isFewest y row) (eqb (outcome y row .revisits) r) u in
+      let (a, others) = both-of (allowed y row) (allPass (noFewer y row) (allRows (y .trains) (y .slots))) v in
+      let against : (other : List ℕ) → T (allowed y other) → T (noFewer y row other) =
+      λ other k. all-hold (noFewer y row) (λ r. T (noFewer y row r)) (λ r h. h) (allRows (y .trains) (y .slots)) others other (allowed-listed y other k) in
+      (
+        record { isOne = a; revisits = λ other k. no-fewer row other (against other k) k .0; splits = λ other k. no-fewer row other (against other k) k .1 },
+        eqb→eq (outcome y row .revisits) r revisits,
+        eqb→eq (outcome y row .splits) s splits,
+      )
+
   accepted-holds : (b : Bool) → T (passes (accepted d b)) → Holds (accepted d b)
   unfolding passes
   accepted-holds true t = is-true (sound dayLimits (yard d)) t
@@ -205,6 +279,8 @@ line-holds (best d row o) t =
 line-holds (later d r s c) t = later-holds d r s c t
 line-holds (refused d a b k) t = refused-holds d a b k t
 line-holds (unkept d) t = unkept-holds d t
+line-holds (summed d b) t = summed-holds d b t
+line-holds (fewest d row r s) t = fewest-holds d row r s t
 line-holds (accepted d b) t = accepted-holds d b t
 line-holds (plans d costs choices bytes a) t = same-answer sameOutcome same-outcome (planned dayLimits (yard d) costs choices bytes) a t
 line-holds (compares procedure d row a) t =

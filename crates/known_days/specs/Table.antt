@@ -1,6 +1,6 @@
 -- P1 to P13 of document 01, its edges and the refusals 8, 11, 12 and 13, days compared with the procedures of document 02's order 1, days
--- with the wagon sets of its order 4, with ties that its order 5 decides and with direct moves, its order 6, as one table, and the one theorem
--- that every line holds:
+-- with the wagon sets of its order 4, with ties that its order 5 decides, with direct moves, its order 6, and with the weights of its order 8,
+-- as one table, and the one theorem that every line holds:
 --     every-line : (l : Line) → List·Memᴰ l table → Holds l
 -- What a line says is `Holds` of Lines.antt. The checker computes one test over the whole table; `line-holds` turns a line's test into its
 -- statement. "The best plan" speaks of every row, through the enumeration of the model's Rows.antt, which is proved complete.
@@ -16,7 +16,7 @@ use Rattle.fold.specs.Table.{allPass, all-hold}
 use Rattle.fold.specs.Fold
 use Rattle.fold.specs.Fold.{sum, count, each, lowest}
 use Rattle.sets.specs.Mask.{mask}
-use Rattle.model.specs.Model.{Outcome, cost, fitting, grouped, apart, kept, parted, allowed, byKey, slotTotal, bySets, precedes, lateSupplier, revisiting, revisits, splitBoxes, splitsTo, splits, directBoxes, directTo, direct, weighed, inSlots, inWindow, load, roomy, slotMask, lower, bound, exceeds, overbooked, inTime, outsideBoxes}
+use Rattle.model.specs.Model.{Outcome, cost, fitting, grouped, apart, kept, parted, allowed, byKey, slotTotal, bySets, precedes, lateSupplier, revisiting, revisits, splitBoxes, splitsTo, splits, directBoxes, directTo, direct, allBoxes, weighed, inSlots, inWindow, load, roomy, slotMask, lower, bound, exceeds, overbooked, inTime, outsideBoxes}
 use Rattle.model.specs.Rows.{allRows}
 use Rattle.model.specs.Order.{pick}
 use Rattle.model.specs.BestOf.{bestOf}
@@ -29,8 +29,8 @@ use Rattle.planning.specs.Planning.{planned}
 use Rattle.procedures.specs.Procedures.{trackFree, waits, suits, earliest, comeTo, firstCome, waitingSupplier, priority, select, fillTo, servedTo, myopic}
 use Rattle.comparing.specs.Comparing.{Comparison, against}
 use Rattle.baselines.specs.Baselines.{compared}
-use Rattle.known_days.specs.Lines.{Line, values, best, later, refused, unkept, accepted, plans, compares, comparesIn, Holds, sameOutcome, sameInt, sameComparison, sameAnswer, isRow, isNone, isInterval, noInterval, passes, line-holds}
-use Rattle.known_days.specs.Days.{move, dayOf, openDay, weightless, fromTwelve, paired, oneWay, fullest, paperDay, numbered, inGroups}
+use Rattle.known_days.specs.Lines.{Line, values, best, later, refused, unkept, summed, fewest, accepted, plans, compares, comparesIn, Holds, sameOutcome, sameInt, sameComparison, sameAnswer, isRow, isNone, isInterval, noInterval, sumWeights, noFewer, isFewest, passes, line-holds}
+use Rattle.known_days.specs.Days.{move, dayOf, openDay, weightless, fromTwelve, paired, oneWay, fullest, paperDay, sixBoxes, numbered, inGroups}
 
 -- ---- the table
 
@@ -38,7 +38,7 @@ abbrev pub saving : Outcome → ℕ → Answer Comparison
 saving o saved = gives record { outcome = o; saving = pos saved }
 
 unfoldable pub table : List Line
-unfolding dayOf openDay weightless fromTwelve paired oneWay fullest paperDay numbered inGroups
+unfolding dayOf openDay weightless fromTwelve paired oneWay fullest paperDay sixBoxes numbered inGroups
 table =
     -- P1 to P3, the source's example
     best (paperDay 1 1 1) (2 ∷ 1 ∷ 2 ∷ 1 ∷ []) (figures 1 7 9 8)
@@ -104,6 +104,30 @@ table =
     ∷ values (openDay 12 12 8 (oneWay 12)) (1 ∷ 2 ∷ 3 ∷ 4 ∷ 5 ∷ 6 ∷ 7 ∷ 8 ∷ 8 ∷ 7 ∷ 6 ∷ 5 ∷ []) (gives (figures 3 5876 482 5879))
     ∷ values (openDay 11 11 8 (oneWay 11)) (7 ∷ 7 ∷ 7 ∷ 5 ∷ 5 ∷ 5 ∷ 6 ∷ 6 ∷ 6 ∷ 8 ∷ 8 ∷ []) (gives (figures 6 4167 673 4173))
     ∷ values (inGroups (1 ∷ 1 ∷ 2 ∷ 2 ∷ 0 ∷ []) (openDay 5 5 1 (oneWay 5))) (replicate 5 1) (gives (figures 0 0 380 0))
+    -- order 8, fewest revisits, then fewest split moves. P1's 16 boxes: the weights 16 and 1, and not 15, nor 2 for a split move; planned, the
+    -- plan of P1 has the fewest. With train 4 bound to slot 2 the fewest revisits are one less than in P6, for three split moves more; with
+    -- groups, of the rows that keep them; without boxes the weights are 0 and 1
+    ∷ summed (paperDay 16 1 1) true
+    ∷ summed (paperDay 15 1 1) false
+    ∷ summed (paperDay 16 2 1) false
+    ∷ plans (paperDay 16 1 1) 16 32 4 (gives (figures 1 7 9 23))
+    ∷ best (paperDay 16 1 1) (2 ∷ 1 ∷ 2 ∷ 1 ∷ []) (figures 1 7 9 23)
+    ∷ fewest (paperDay 16 1 1) (2 ∷ 1 ∷ 2 ∷ 1 ∷ []) 1 7
+    ∷ best (paperDay 16 1 2) (1 ∷ 1 ∷ 2 ∷ 2 ∷ []) (figures 1 10 6 26)
+    ∷ fewest (paperDay 16 1 2) (1 ∷ 1 ∷ 2 ∷ 2 ∷ []) 1 10
+    ∷ best (inGroups (1 ∷ 0 ∷ 0 ∷ 1 ∷ []) (paperDay 16 1 1)) (1 ∷ 2 ∷ 2 ∷ 1 ∷ []) (figures 1 15 1 31)
+    ∷ fewest (inGroups (1 ∷ 0 ∷ 0 ∷ 1 ∷ []) (paperDay 16 1 1)) (1 ∷ 2 ∷ 2 ∷ 1 ∷ []) 1 15
+    ∷ summed (dayOf 2 1 2 0 1 (replicate 2 1) (replicate 2 2) []) true
+    ∷ best (dayOf 2 1 2 0 1 (replicate 2 1) (replicate 2 2) []) (2 ∷ 1 ∷ []) (figures 0 0 0 0)
+    ∷ fewest (dayOf 2 1 2 0 1 (replicate 2 1) (replicate 2 2) []) (2 ∷ 1 ∷ []) 0 0
+    -- how great the weight has to be, on a day of six boxes with two allowed rows: from 6 on the row without a revisit is the cheaper one; at 5
+    -- both cost 6, and order 5 puts it first; at 4 the plan is the other one, though it has a revisit
+    ∷ summed (sixBoxes 6) true
+    ∷ best (sixBoxes 6) (3 ∷ 2 ∷ 1 ∷ 2 ∷ []) (figures 0 6 0 6)
+    ∷ best (sixBoxes 5) (3 ∷ 2 ∷ 1 ∷ 2 ∷ []) (figures 0 6 0 6)
+    ∷ later (sixBoxes 5) (3 ∷ 2 ∷ 1 ∷ 2 ∷ []) (1 ∷ 2 ∷ 1 ∷ 2 ∷ []) 6
+    ∷ best (sixBoxes 4) (1 ∷ 2 ∷ 1 ∷ 2 ∷ []) (figures 1 1 5 5)
+    ∷ fewest (sixBoxes 4) (3 ∷ 2 ∷ 1 ∷ 2 ∷ []) 0 6
     -- the limits of the head on both sides: trains and tracks 1 and 12, 0 and 13; slots 1 and 8, 0 and 9; weights 0 and 65535, 65536
     ∷ accepted (openDay 12 12 8 []) true
     ∷ accepted (openDay 1 1 1 []) true
@@ -238,7 +262,7 @@ table =
 
 -- the one computation
 computed : T (allPass passes table)
-unfolding allPass passes sameOutcome sameInt sameComparison sameAnswer sameList isRow isNone isInterval noInterval table sum count each Fold.some lowest mask lateSupplier revisiting revisits splitBoxes splitsTo splits directBoxes directTo direct weighed cost inSlots inWindow load roomy fitting grouped apart kept parted allowed slotMask lower slotTotal bySets precedes bound exceeds overbooked allRows byKey pick bestOf overbookedFrom overbookedFirst overbookedLast firstOverbooked within headRanges trainRanges shaped numberBefore trainSound unused positionSound groupSound pairSound receiverSound sound strays overfull valued planned inTime trackFree waits suits earliest comeTo waitingSupplier outsideBoxes priority select fillTo servedTo against compared
+unfolding allPass passes sameOutcome sameInt sameComparison sameAnswer sameList isRow isNone isInterval noInterval sumWeights noFewer isFewest table sum count each Fold.some lowest mask lateSupplier revisiting revisits splitBoxes splitsTo splits directBoxes directTo direct allBoxes weighed cost inSlots inWindow load roomy fitting grouped apart kept parted allowed slotMask lower slotTotal bySets precedes bound exceeds overbooked allRows byKey pick bestOf overbookedFrom overbookedFirst overbookedLast firstOverbooked within headRanges trainRanges shaped numberBefore trainSound unused positionSound groupSound pairSound receiverSound sound strays overfull valued planned inTime trackFree waits suits earliest comeTo waitingSupplier outsideBoxes priority select fillTo servedTo against compared
 computed = tt
 
 pub every-line : (l : Line) → List·Memᴰ l table → Holds l

@@ -14,9 +14,12 @@ use Rattle.fold.specs.Fold.{sum}
 use Rattle.model.specs.Model.{Yard, received, slotOf, revisits, outcome, cost, allowed, slotMask, byKey, slotTotal, bySets, precedes, Best}
 use Rattle.model.specs.Order.{key-not, key-cases, lower-not, not-lower}
 
--- an allowed row, and none is cheaper
+-- a row of some kind, and none of that kind is cheaper; an allowed one
+abbrev pub CheapestOf : Yard → (List ℕ → Type 0) → List ℕ → Type 0
+CheapestOf y Kind row = Kind row × ((other : List ℕ) → Kind other → cost y row ≤ cost y other)
+
 abbrev pub Cheapest : Yard → List ℕ → Type 0
-Cheapest y row = T (allowed y row) × ((other : List ℕ) → T (allowed y other) → cost y row ≤ cost y other)
+Cheapest y = CheapestOf y λ row. T (allowed y row)
 
 -- `other` is an allowed row that costs as much as `row`
 abbrev pub AsCheap : Yard → List ℕ → List ℕ → Type 0

@@ -8,4 +8,5 @@ pub mod Foremost
 pub mod Overbooked
 pub mod Program
 pub mod Bridge
+pub mod Fewest
 pub mod Cells

@@ -50,6 +50,11 @@ objective y v z =
     y .revisit * sum (y .trains) v
     + y .split * sum (y .trains) λ i. sum (y .trains) λ j. cond (supplies (received y) i j) (z i j * received y i j) 0
 
+-- section 3.1: the weight of a revisit that brings the two objectives in lexicographic order, where that of a split move is 1: the sum of
+-- A(i, j) over the trains i and the j in L_i
+unfoldable pub suggestedWeight : Yard → ℕ
+suggestedWeight y = sum (y .trains) λ i. sum (y .trains) λ j. cond (supplies (received y) i j) (received y i j) 0
+
 -- order 6 of 02 in the source's variables: the boxes between trains of one slot, slot by slot, the sum of x_it x_jt A(i, j)
 unfoldable pub boxesTogether : Yard → (ℕ → ℕ → ℕ) → ℕ
 boxesTogether y x = sum (y .slots) λ t. sum (y .trains) λ i. sum (y .trains) λ j. x i (suc t) * (x j (suc t) * received y i j)

@@ -7,6 +7,9 @@
 --   plan-foremost    the order among rows of equal cost is order 5's of document 02: none of them has fewer revisits, of those with as many
 --                    none a smaller sum of slot numbers, and of those with as small a one none the larger set number at the lowest
 --                    slot where they differ;
+--   plan-fewest      where the revisit weight is the sum of all boxes and the split weight 1 (order 8), it has the fewest revisits of all
+--                    allowed rows, and the fewest split moves of those that share this fewest; `plan-outweighs`: as where a revisit weighs
+--                    more;
 --   plan-refused     otherwise the answer is 9, with the overbooked interval that 01 names and the number of trains bound inside, or 16;
 --   nine-exactly     9 is returned exactly when an interval is overbooked;
 --   sixteen-exactly  16 is returned exactly when none is and still no row is allowed;
@@ -33,6 +36,7 @@ use Rattle.model.specs.Rows.{allowed-is}
 use Rattle.model.specs.Groups.{NoGroups}
 use Rattle.model.specs.BestOf.{bestOf, none-is, is-best, is-none}
 use Rattle.model.specs.Foremost.{Foremost, best-foremost}
+use Rattle.model.specs.Fewest.{SumWeights, Outweighs, Fewest, sum-outweighs, best-fewest}
 use Rattle.model.specs.Overbooked.{Interval, firstOverbooked, SaysFirst, first-says}
 use Rattle.day.specs.Answer.{Answer, gives, refuses, code}
 use Rattle.day.specs.AnswerLaws.{gives-same}
@@ -148,6 +152,12 @@ module _ (l : Limits) (y : Yard) (costs choices : ℕ) (row : List ℕ)
 
   pub plan-foremost : (o : Outcome) → said ≡ gives o → Foremost y (take (y .trains) after)
   plan-foremost o g = best-foremost y (take (y .trains) after) (plan-best o g .best)
+
+  pub plan-outweighs : Outweighs y → (o : Outcome) → said ≡ gives o → Fewest y (take (y .trains) after)
+  plan-outweighs w o g = best-fewest y w (take (y .trains) after) (plan-best o g .best)
+
+  pub plan-fewest : SumWeights y → (o : Outcome) → said ≡ gives o → Fewest y (take (y .trains) after)
+  plan-fewest w = plan-outweighs (sum-outweighs y w)
 
   pub plan-exactly : ((o : Outcome) × (said ≡ gives o)) ↔ SomeRow y
   plan-exactly = (λ g. (take (y .trains) after, plan-best (g .0) (g .1) .best .isAllowed), λ r. go r (bestOf y) refl)

@@ -23,7 +23,7 @@ use Rattle.day.specs.AnswerLaws.{AllHold, gives-same, checked-gives, checked-ho
 use Rattle.day.specs.declared.Limits.{Limits}
 use Rattle.feasibility.specs.RowOrNone.{none-spacious}
 use Rattle.planning.specs.Planning.{noRow, bestRow}
-use Rattle.rolling.specs.Rolling.{Account, State, planOf, accountOf, stateOf, Change, cancel, add, setBoxes, edited, cut, Keeps, bestPlan, Call, close, change, areasSuffice, changeChecks, callChecks, stateSound, stateMade, stateChecks, stateAfter, begun}
+use Rattle.rolling.specs.Rolling.{Account, State, planOf, accountOf, stateOf, Change, cancel, add, setBoxes, edited, cut, KeptRow, bestPlan, Call, close, change, areasSuffice, changeChecks, callChecks, stateSound, stateMade, stateChecks, stateAfter, begun}
 use Rattle.rolling.specs.Cut.{Standing, keeps-cut, cut-keeps}
 use Rattle.rolling.specs.Changes.{change-standing, NoNewTrain, row-left}
 use Rattle.rolling.specs.States.{sound-state, state-sound, state-standing, plan-keeps, closed-sound}
@@ -76,9 +76,9 @@ module _ (l : Limits) (s : State) (c : Change) (costs choices : ℕ) where
     standing : Standing l after
     standing = change-standing (state-standing (sound-state l s t)) c h
 
-    -- a row that the order lets planning choose from
-    pub KeptRow : Type 0
-    KeptRow = (row : List ℕ) × (T (allowed (after .day) row) × Keeps after row)
+    -- there is a row that planning may choose
+    abbrev pub SomeKeptRow : Type 0
+    SomeKeptRow = (row : List ℕ) × KeptRow after row
 
     pub change-says : stateAfter l s (change c costs choices) ≡ stateMade s (change c costs choices)
     unfolding stateAfter
@@ -87,16 +87,14 @@ module _ (l : Limits) (s : State) (c : Change) (costs choices : ℕ) where
     with-plan : (plan : List ℕ) → bestOf (cut after) ≡ some plan → stateAfter l s (change c costs choices) ≡ gives (stateOf after plan)
     with-plan plan e = change-says ∙ ap (λ o. onGiven (bestRow (cut after) o) (λ plan. gives (stateOf after plan))) e
 
-    pub taken-exactly : ((next : State) × (stateAfter l s (change c costs choices) ≡ gives next)) ↔ KeptRow
-    unfolding KeptRow
+    pub taken-exactly : ((next : State) × (stateAfter l s (change c costs choices) ≡ gives next)) ↔ SomeKeptRow
     taken-exactly = (λ w. let b = change-taken (w .0) (w .1) .best in (planOf (w .0), (b .isAllowed, b .keeps)), λ w. go w (bestOf (cut after)) refl)
       where
-        go : KeptRow → (o : Option (List ℕ)) → bestOf (cut after) ≡ o → (next : State) × (stateAfter l s (change c costs choices) ≡ gives next)
+        go : SomeKeptRow → (o : Option (List ℕ)) → bestOf (cut after) ≡ o → (next : State) × (stateAfter l s (change c costs choices) ≡ gives next)
         go w none e = absurd (is-none (cut after) e (w .0) (keeps-cut standing (w .0) (w .1 .0) (w .1 .1)))
         go w (some plan) e = (stateOf after plan, with-plan plan e)
 
-    pub change-refused : (KeptRow → ⊥) → Nine (cut after) (stateAfter l s (change c costs choices)) ⊎ Sixteen (cut after) (stateAfter l s (change c costs choices))
-    unfolding KeptRow
+    pub change-refused : (SomeKeptRow → ⊥) → Nine (cut after) (stateAfter l s (change c costs choices)) ⊎ Sixteen (cut after) (stateAfter l s (change c costs choices))
     change-refused nowhere =
         none-refused (cut after) (stateAfter l s (change c costs choices)) (λ plan. gives (stateOf after plan)) change-says (λ row u. let (a, k) = cut-keeps standing row u in nowhere (row, (a, k)))
 

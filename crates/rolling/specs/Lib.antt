@@ -13,3 +13,4 @@ pub mod ByNumber
 pub mod Memory
 pub mod Exactly
 pub mod Begins
+pub mod Fewest

@@ -192,7 +192,11 @@ pub record Keeps (a : Account) (row : List ℕ) : Type 0 where
   pub served : (i : ℕ) → i < a .day .trains → 1 ≤ slotOf (a .served) i → slotOf row i ≡ slotOf (a .served) i
   pub waiting : (i : ℕ) → i < a .day .trains → slotOf (a .served) i ≡ 0 → a .closed < slotOf row i
 
--- order 7: the best of all allowed rows that do so
+-- an allowed row that does so: what planning may choose from
+abbrev pub KeptRow : Account → List ℕ → Type 0
+KeptRow a row = T (allowed (a .day) row) × Keeps a row
+
+-- order 7: the best of these
 pub record BestKept (a : Account) (row : List ℕ) : Type 0 where
   pub isAllowed : T (allowed (a .day) row)
   pub keeps : Keeps a row

@@ -1,0 +1,204 @@
+-- Order 8 of document 02: fewest revisits, then fewest split moves. Section 3.1 of the source takes the sum of all boxes as the weight of a
+-- revisit and 1 as that of a split move, so that the two objectives are in lexicographic order. Why they are:
+--   revisits-splits    a row has no more revisits than split moves, so one with revisits has some;
+--   splits-boxes       no row has more split moves than there are boxes (Moves.antt);
+--   fewer-cheaper      hence one revisit less is never bought by split moves: of any two rows the one with fewer revisits is cheaper;
+--   lexicographic      and the cost compares rows by revisits, and those with as many by split moves.
+-- So of any rows that one may choose from the cheapest are just those with the fewest revisits and, among these, the fewest split moves
+-- (`cheapest-fewest`, `fewest-cheapest`); the best plan is such a row of all allowed ones (`best-fewest`). The order of rows of equal cost
+-- has no part in it. It has where a revisit weighs one split move less: `best-fewest-below`.
+-- Assumes nothing.
+use mathlib.Core.Path.{_≡_, refl, sym, ap, _∙_}
+use mathlib.Core.Bool.{Bool, true, false, cond}
+use mathlib.Core.List.{List}
+use mathlib.Core.Logic.{_↔_, _⊎_, inl, inr, ⊎-elim}
+use Prim.Native.Nat.{ℕ, zero, suc, _+_, _*_, _≤_, _<_}
+use native.Mathlib.Nat.{le-trans, le-antisymm, mul-le-mul-left, mul-suc, mul-add}
+use native.Mathlib.Omega.{arith}
+use lib.Dec.{T, ltb, eqb, ltb→lt}
+use borrow.Author.Tests.{lt-ltb, ne-eqb}
+use Rattle.fold.specs.Test.{both-of}
+use Rattle.fold.specs.Fold.{bit, sum, count, some-of}
+use Rattle.fold.specs.Sums.{sum-ext, sum-le, term-le-sum}
+use Rattle.fold.specs.Counting.{le-or-lt}
+use Rattle.model.specs.Model.{Yard, received, slotOf, supplies, lateSupplier, revisiting, revisits, splitBoxes, splitsTo, splits, allBoxes, weighed, outcome, cost, fitting, allowed, byKey, slotTotal, bySets, precedes, Best}
+use Rattle.model.specs.Moves.{splits-boxes}
+use Rattle.model.specs.Order.{key-less}
+use Rattle.model.specs.Foremost.{CheapestOf}
+use Rattle.model.specs.Program.{suggestedWeight}
+
+-- ---- definitions
+
+-- order 8: the revisit weight is the sum of all boxes, the split weight is 1
+abbrev pub SumWeights : Yard → Type 0
+SumWeights y = (y .revisit ≡ allBoxes (y .trains) (received y)) × (y .split ≡ 1)
+
+-- a split move weighs something, and a revisit as much as all boxes moved twice
+abbrev pub Outweighs : Yard → Type 0
+Outweighs y = (1 ≤ y .split) × (y .split * allBoxes (y .trains) (received y) ≤ y .revisit)
+
+-- of the rows of some kind: the fewest revisits of all, and the fewest split moves of those that share this fewest
+pub record FewestOf (y : Yard) (Kind : List ℕ → Type 0) (row : List ℕ) : Type 0 where
+  pub isOne : Kind row
+  pub revisits : (other : List ℕ) → Kind other → outcome y row .revisits ≤ outcome y other .revisits
+  pub splits : (other : List ℕ) → Kind other → outcome y other .revisits ≡ outcome y row .revisits → outcome y row .splits ≤ outcome y other .splits
+
+-- of all allowed rows
+abbrev pub Fewest : Yard → List ℕ → Type 0
+Fewest y = FewestOf y λ row. T (allowed y row)
+
+-- the day with order 8's weights
+abbrev pub reweighed : Yard → Yard
+reweighed y = record {
+  trains = y .trains;
+  tracks = y .tracks;
+  slots = y .slots;
+  revisit = allBoxes (y .trains) (received y);
+  split = 1;
+  numbers = y .numbers;
+  first = y .first;
+  last = y .last;
+  groups = y .groups;
+  width = y .width;
+  boxes = y .boxes;
+}
+
+-- ---- the weights
+
+-- the sum of all boxes is the source's own, over the suppliers of each train
+pub suggested-boxes : (y : Yard) → suggestedWeight y ≡ allBoxes (y .trains) (received y)
+unfolding suggestedWeight allBoxes
+suggested-boxes y =
+    sum-ext (y .trains) (λ i. sum (y .trains) λ j. cond (supplies (received y) i j) (received y i j) 0) (λ i. sum (y .trains) (received y i))
+    (λ i h. sum-ext (y .trains) (λ j. cond (supplies (received y) i j) (received y i j) 0) (received y i) (λ j k. only (received y i j)))
+  where
+    only : (x : ℕ) → cond (ltb 0 x) x 0 ≡ x
+    only zero = refl
+    only (suc x) = rw (lt-ltb 0 (suc x) (omega arith))
+
+-- order 8's weights do, as does any revisit weight from there on
+pub from-sum-outweighs : (y : Yard) → allBoxes (y .trains) (received y) ≤ y .revisit → y .split ≡ 1 → Outweighs y
+from-sum-outweighs y h e = (omega arith, rw e (omega arith))
+
+pub sum-outweighs : (y : Yard) → SumWeights y → Outweighs y
+sum-outweighs y w = from-sum-outweighs y (omega (arith, w .0)) (w .1)
+
+-- ---- a revisit has a split move
+
+module _ (n : ℕ) (a : ℕ → ℕ → ℕ) (row : List ℕ) where
+  -- the boxes from a supplier in a later slot are split moves
+  late-splits : (i j : ℕ) → T (lateSupplier a row i j) → 1 ≤ splitBoxes a row i j
+  unfolding lateSupplier splitBoxes
+  late-splits i j t =
+      let (some-boxes, later) = both-of (ltb 0 (a i j)) (ltb (slotOf row i) (slotOf row j)) t in
+      let before = ltb→lt (slotOf row i) (slotOf row j) later in
+      rw (ne-eqb (slotOf row i) (slotOf row j) (λ e. omega arith)) (ltb→lt 0 (a i j) some-boxes)
+
+  revisit-splits : (i : ℕ) (b : Bool) → revisiting n a row i ≡ b → bit b ≤ splitsTo n a row i
+  unfolding revisiting splitsTo
+  revisit-splits i true e =
+      let (j, h, late) = some-of n (lateSupplier a row i) (rw e tt) in
+      le-trans (late-splits i j late) (term-le-sum n (splitBoxes a row i) j h)
+  revisit-splits i false e = omega arith
+
+  pub revisits-splits : revisits n a row ≤ splits n a row
+  unfolding revisits count splits
+  revisits-splits = sum-le n (λ i. bit (revisiting n a row i)) (splitsTo n a row) (λ i h. revisit-splits i (revisiting n a row i) refl)
+
+-- ---- weights that compare revisits first
+
+-- a further revisit adds its weight v and that of a split move, w; split moves of all b boxes are the most that can be saved for it
+further-revisit : (v w r p s q b : ℕ) → p ≤ b → 1 ≤ q → r < s → weighed v w r p + (v + w) ≤ weighed v w s q + w * b
+unfolding weighed
+further-revisit v w r p s q b few some-split fewer =
+    omega (arith, mul-le-mul-left {m = suc r} {n = s} v fewer, mul-suc v r, mul-le-mul-left {m = p} {n = b} w few, mul-le-mul-left {m = 1} {n = q} w some-split)
+
+module _ (y : Yard) where
+  abbrev revisitsOf : List ℕ → ℕ
+  revisitsOf row = outcome y row .revisits
+
+  abbrev splitsOf : List ℕ → ℕ
+  splitsOf row = outcome y row .splits
+
+  -- of any two rows, allowed or not
+  further-costs : (row other : List ℕ) → revisitsOf row < revisitsOf other → cost y row + (y .revisit + y .split) ≤ cost y other + y .split * allBoxes (y .trains) (received y)
+  unfolding cost
+  further-costs row other fewer =
+      further-revisit (y .revisit) (y .split) (revisitsOf row) (splitsOf row) (revisitsOf other) (splitsOf other) (allBoxes (y .trains) (received y))
+      (splits-boxes (y .trains) (received y) row) (omega (arith, revisits-splits (y .trains) (received y) other)) fewer
+
+  -- of two that have as many revisits, k split moves more
+  further-splits : (row other : List ℕ) (k : ℕ) → revisitsOf row ≡ revisitsOf other → splitsOf row + k ≤ splitsOf other → cost y row + y .split * k ≤ cost y other
+  unfolding cost weighed
+  further-splits row other k same more =
+      rw same (omega (arith, mul-le-mul-left {m = splitsOf row + k} {n = splitsOf other} (y .split) more, mul-add (y .split) (splitsOf row) k))
+
+  -- so the one that is no dearer has no more, where they weigh something
+  no-more-splits : 1 ≤ y .split → (row other : List ℕ) → revisitsOf row ≡ revisitsOf other → cost y row ≤ cost y other → splitsOf row ≤ splitsOf other
+  no-more-splits some-weight row other same c =
+      ⊎-elim (λ l. l) (λ l. absurd (omega (arith, further-splits other row 1 (sym same) (omega arith)))) (le-or-lt (splitsOf row) (splitsOf other))
+
+  module _ (o : Outweighs y) where
+    pub fewer-cheaper : (row other : List ℕ) → outcome y row .revisits < outcome y other .revisits → cost y row < cost y other
+    fewer-cheaper row other fewer = omega (arith, further-costs row other fewer, o .0, o .1)
+
+    -- the cost compares rows by revisits, and those with as many by split moves
+    pub lexicographic : (row other : List ℕ)
+        → (cost y row ≤ cost y other)
+        ↔ ((outcome y row .revisits < outcome y other .revisits) ⊎ ((outcome y row .revisits ≡ outcome y other .revisits) × (outcome y row .splits ≤ outcome y other .splits)))
+    lexicographic row other = (
+      λ c. ⊎-elim (λ (l : revisitsOf other ≤ revisitsOf row). let e = same c l in inr (e, no-more-splits (o .0) row other e c)) (λ l. inl l) (le-or-lt (revisitsOf other) (revisitsOf row)),
+      ⊎-elim (λ l. omega (arith, fewer-cheaper row other l)) (λ p. omega (arith, further-splits row other 0 (p .0) (omega (arith, p .1)))),
+    )
+      where
+        same : cost y row ≤ cost y other → revisitsOf other ≤ revisitsOf row → revisitsOf row ≡ revisitsOf other
+        same c l = ⊎-elim (λ (k : revisitsOf row ≤ revisitsOf other). omega arith) (λ k. absurd (omega (arith, fewer-cheaper other row k))) (le-or-lt (revisitsOf row) (revisitsOf other))
+
+    module _ (Kind : List ℕ → Type 0) (row : List ℕ) where
+      pub cheapest-fewest : CheapestOf y Kind row → FewestOf y Kind row
+      cheapest-fewest (isOne, least) = record {
+        isOne = isOne;
+        revisits = λ other k. ⊎-elim (λ l. omega arith) (λ p. omega (arith, p .0)) (lexicographic row other .0 (least other k));
+        splits = λ other k same. ⊎-elim (λ l. absurd (omega arith)) (λ p. p .1) (lexicographic row other .0 (least other k));
+      }
+
+      pub fewest-cheapest : FewestOf y Kind row → CheapestOf y Kind row
+      fewest-cheapest f =
+          (f .isOne, λ other k.
+            lexicographic row other .1
+            (⊎-elim (λ (l : revisitsOf other ≤ revisitsOf row). let same = le-antisymm (f .revisits other k) l in inr (same, f .splits other k (sym same))) (λ l. inl l)
+            (le-or-lt (revisitsOf other) (revisitsOf row))))
+
+    -- order 8, of the best plan
+    pub best-fewest : (row : List ℕ) → Best y row → Fewest y row
+    best-fewest row b = cheapest-fewest (λ r. T (allowed y r)) row (b .isAllowed, b .least)
+
+  -- ---- a revisit that weighs one split move less: of the cheapest rows some may have more revisits than others, but the best plan has the
+  -- fewest, since order 5 puts fewer revisits first
+
+  pub best-fewest-below : 1 ≤ y .split → y .split * allBoxes (y .trains) (received y) ≤ y .revisit + y .split → (row : List ℕ) → Best y row → Fewest y row
+  unfolding precedes
+  best-fewest-below some-weight enough row b = record {
+    isOne = b .isAllowed;
+    revisits = λ other k.
+        ⊎-elim (λ l. l)
+        (λ (l : revisitsOf other < revisitsOf row).
+        let same : cost y other ≡ cost y row = omega (arith, further-costs other row l, b .least other k) in
+        absurd (b .first other k same (key-less (revisits (y .trains) (received y)) (byKey (slotTotal (y .trains)) (bySets y)) other row l)))
+        (le-or-lt (revisitsOf row) (revisitsOf other));
+    splits = λ other k same. no-more-splits some-weight row other (sym same) (b .least other k);
+  }
+
+-- ---- any day, given order 8's weights: its allowed rows are what they were, and the best plan has the fewest revisits of them, then the
+-- fewest split moves
+
+module _ (y : Yard) (row : List ℕ) where
+  pub reweighed-allowed : allowed (reweighed y) row ≡ allowed y row
+  unfolding allowed fitting
+  reweighed-allowed = refl
+
+  pub reweighed-fewest : Best (reweighed y) row → Fewest y row
+  unfolding allowed fitting
+  reweighed-fewest b =
+      let f = best-fewest (reweighed y) (sum-outweighs (reweighed y) (refl, refl)) row b in
+      record { isOne = f .isOne; revisits = λ other k. f .revisits other k; splits = λ other k same. f .splits other k same }
