@@ -11,7 +11,7 @@ use lib.Dec.{T}
 use Rattle.fold.specs.Fold.{sum}
 use Rattle.fold.specs.Sums.{sum-bound}
 use Rattle.fold.specs.Counting.{count-bound}
-use Rattle.model.specs.Model.{Yard, received, revisiting, revisits, allBoxes, weighed, outcome, cost}
+use Rattle.model.specs.Model.{Yard, received, revisiting, revisits, allBoxes, boxesOf, weighed, outcome, cost}
 use Rattle.model.specs.Moves.{direct-boxes, splits-boxes}
 use Rattle.day.specs.Sound.{dayLimits, sound}
 use Rattle.day.specs.SoundLaws.{Sound, sound-is}
@@ -57,7 +57,7 @@ revisits-most n a row = count-bound (revisiting n a row) n
 
 -- ---- a sound day
 
-pub sound-boxes : (l : Limits) (y : Yard) → Sound l y → allBoxes (y .trains) (received y) ≤ mostBoxes l
+pub sound-boxes : (l : Limits) (y : Yard) → Sound l y → boxesOf y ≤ mostBoxes l
 unfolding mostBoxes
 sound-boxes l y s =
     let fewer : y .trains - 1 ≤ l .trains - 1 = omega (arith, s .trains .1) in

@@ -13,7 +13,7 @@ use lib.IntN.{ℤ, pos, negsuc}
 use borrow.Author.Tests.{eq-eqb}
 use Rattle.fold.specs.Test.{is-true, of-true, is-false, both, both-of, either-of, not-of, sameList, same-list}
 use Rattle.fold.specs.Table.{allPass, all-hold}
-use Rattle.model.specs.Model.{Yard, received, allBoxes, Outcome, outcome, cost, allowed, precedes, Best, NoRow, overbooked, FirstOverbooked, boundInside}
+use Rattle.model.specs.Model.{Yard, boxesOf, Outcome, outcome, cost, allowed, precedes, Best, NoRow, overbooked, FirstOverbooked, boundInside}
 use Rattle.model.specs.Rows.{allRows, allowed-listed}
 use Rattle.model.specs.BestOf.{bestOf, is-best, is-none}
 use Rattle.model.specs.Fewest.{SumWeights, Fewest}
@@ -106,7 +106,7 @@ noInterval none = true
 noInterval (some w) = false
 
 unfoldable pub sumWeights : Yard → Bool
-sumWeights y = eqb (y .revisit) (allBoxes (y .trains) (received y)) && eqb (y .split) 1
+sumWeights y = eqb (y .revisit) (boxesOf y) && eqb (y .split) 1
 
 -- another row that is allowed has more revisits, or as many and no fewer split moves
 unfoldable pub noFewer : Yard → List ℕ → List ℕ → Bool
@@ -222,13 +222,11 @@ module _ (d : Day) where
   unfolding passes sumWeights
   summed-holds true t =
       let y = yard d in
-      let boxes = allBoxes (y .trains) (received y) in
-      let (v, w) = both-of (eqb (y .revisit) boxes) (eqb (y .split) 1) t in
-      (eqb→eq (y .revisit) boxes v, eqb→eq (y .split) 1 w)
+      let (v, w) = both-of (eqb (y .revisit) (boxesOf y)) (eqb (y .split) 1) t in
+      (eqb→eq (y .revisit) (boxesOf y) v, eqb→eq (y .split) 1 w)
   summed-holds false t =
       let y = yard d in
-      let boxes = allBoxes (y .trains) (received y) in
-      λ h. not-of (sumWeights y) t (both (eqb (y .revisit) boxes) (eqb (y .split) 1) (of-true (eq-eqb (y .revisit) boxes (h .0))) (of-true (eq-eqb (y .split) 1 (h .1))))
+      λ h. not-of (sumWeights y) t (both (eqb (y .revisit) (boxesOf y)) (eqb (y .split) 1) (of-true (eq-eqb (y .revisit) (boxesOf y) (h .0))) (of-true (eq-eqb (y .split) 1 (h .1))))
 
   -- what the test of another row says of an allowed one
   no-fewer : (row other : List ℕ) → T (noFewer (yard d) row other) → T (allowed (yard d) other)
@@ -258,8 +256,7 @@ module _ (d : Day) where
       let (v, revisits) = both-of (isFewest y row) (eqb (outcome y row .revisits) r) u in
       let (a, others) = both-of (allowed y row) (allPass (noFewer y row) (allRows (y .trains) (y .slots))) v in
       let against : (other : List ℕ) → T (allowed y other) → T (noFewer y row other) =
-      λ other k. all-hold (noFewer y row) (λ r. T (noFewer y row r)) (λ r h. h) (allRows (y .trains) (y .slots)) others other (allowed-listed y other k) in
-      (
+      λ other k. all-hold (noFewer y row) (λ r. T (noFewer y row r)) (λ r h. h) (allRows (y .trains) (y .slots)) others other (allowed-listed y other k) in (
         record { isOne = a; revisits = λ other k. no-fewer row other (against other k) k .0; splits = λ other k. no-fewer row other (against other k) k .1 },
         eqb→eq (outcome y row .revisits) r revisits,
         eqb→eq (outcome y row .splits) s splits,

@@ -8,20 +8,20 @@
 -- (`cheapest-fewest`, `fewest-cheapest`); the best plan is such a row of all allowed ones (`best-fewest`). The order of rows of equal cost
 -- has no part in it. It has where a revisit weighs one split move less: `best-fewest-below`.
 -- Assumes nothing.
-use mathlib.Core.Path.{_≡_, refl, sym, ap, _∙_}
+use mathlib.Core.Path.{_≡_, refl, sym}
 use mathlib.Core.Bool.{Bool, true, false, cond}
 use mathlib.Core.List.{List}
 use mathlib.Core.Logic.{_↔_, _⊎_, inl, inr, ⊎-elim}
 use Prim.Native.Nat.{ℕ, zero, suc, _+_, _*_, _≤_, _<_}
 use native.Mathlib.Nat.{le-trans, le-antisymm, mul-le-mul-left, mul-suc, mul-add}
 use native.Mathlib.Omega.{arith}
-use lib.Dec.{T, ltb, eqb, ltb→lt}
+use lib.Dec.{T, ltb, ltb→lt}
 use borrow.Author.Tests.{lt-ltb, ne-eqb}
 use Rattle.fold.specs.Test.{both-of}
 use Rattle.fold.specs.Fold.{bit, sum, count, some-of}
 use Rattle.fold.specs.Sums.{sum-ext, sum-le, term-le-sum}
 use Rattle.fold.specs.Counting.{le-or-lt}
-use Rattle.model.specs.Model.{Yard, received, slotOf, supplies, lateSupplier, revisiting, revisits, splitBoxes, splitsTo, splits, allBoxes, weighed, outcome, cost, fitting, allowed, byKey, slotTotal, bySets, precedes, Best}
+use Rattle.model.specs.Model.{Yard, received, slotOf, supplies, lateSupplier, revisiting, revisits, splitBoxes, splitsTo, splits, allBoxes, boxesOf, weighed, outcome, cost, fitting, allowed, byKey, slotTotal, bySets, precedes, Best}
 use Rattle.model.specs.Moves.{splits-boxes}
 use Rattle.model.specs.Order.{key-less}
 use Rattle.model.specs.Foremost.{CheapestOf}
@@ -31,11 +31,11 @@ use Rattle.model.specs.Program.{suggestedWeight}
 
 -- order 8: the revisit weight is the sum of all boxes, the split weight is 1
 abbrev pub SumWeights : Yard → Type 0
-SumWeights y = (y .revisit ≡ allBoxes (y .trains) (received y)) × (y .split ≡ 1)
+SumWeights y = (y .revisit ≡ boxesOf y) × (y .split ≡ 1)
 
 -- a split move weighs something, and a revisit as much as all boxes moved twice
 abbrev pub Outweighs : Yard → Type 0
-Outweighs y = (1 ≤ y .split) × (y .split * allBoxes (y .trains) (received y) ≤ y .revisit)
+Outweighs y = (1 ≤ y .split) × (y .split * boxesOf y ≤ y .revisit)
 
 -- of the rows of some kind: the fewest revisits of all, and the fewest split moves of those that share this fewest
 pub record FewestOf (y : Yard) (Kind : List ℕ → Type 0) (row : List ℕ) : Type 0 where
@@ -53,7 +53,7 @@ reweighed y = record {
   trains = y .trains;
   tracks = y .tracks;
   slots = y .slots;
-  revisit = allBoxes (y .trains) (received y);
+  revisit = boxesOf y;
   split = 1;
   numbers = y .numbers;
   first = y .first;
@@ -66,7 +66,7 @@ reweighed y = record {
 -- ---- the weights
 
 -- the sum of all boxes is the source's own, over the suppliers of each train
-pub suggested-boxes : (y : Yard) → suggestedWeight y ≡ allBoxes (y .trains) (received y)
+pub suggested-boxes : (y : Yard) → suggestedWeight y ≡ boxesOf y
 unfolding suggestedWeight allBoxes
 suggested-boxes y =
     sum-ext (y .trains) (λ i. sum (y .trains) λ j. cond (supplies (received y) i j) (received y i j) 0) (λ i. sum (y .trains) (received y i))
@@ -77,7 +77,7 @@ suggested-boxes y =
     only (suc x) = rw (lt-ltb 0 (suc x) (omega arith))
 
 -- order 8's weights do, as does any revisit weight from there on
-pub from-sum-outweighs : (y : Yard) → allBoxes (y .trains) (received y) ≤ y .revisit → y .split ≡ 1 → Outweighs y
+pub from-sum-outweighs : (y : Yard) → boxesOf y ≤ y .revisit → y .split ≡ 1 → Outweighs y
 from-sum-outweighs y h e = (omega arith, rw e (omega arith))
 
 pub sum-outweighs : (y : Yard) → SumWeights y → Outweighs y
@@ -121,10 +121,10 @@ module _ (y : Yard) where
   splitsOf row = outcome y row .splits
 
   -- of any two rows, allowed or not
-  further-costs : (row other : List ℕ) → revisitsOf row < revisitsOf other → cost y row + (y .revisit + y .split) ≤ cost y other + y .split * allBoxes (y .trains) (received y)
+  further-costs : (row other : List ℕ) → revisitsOf row < revisitsOf other → cost y row + (y .revisit + y .split) ≤ cost y other + y .split * boxesOf y
   unfolding cost
   further-costs row other fewer =
-      further-revisit (y .revisit) (y .split) (revisitsOf row) (splitsOf row) (revisitsOf other) (splitsOf other) (allBoxes (y .trains) (received y))
+      further-revisit (y .revisit) (y .split) (revisitsOf row) (splitsOf row) (revisitsOf other) (splitsOf other) (boxesOf y)
       (splits-boxes (y .trains) (received y) row) (omega (arith, revisits-splits (y .trains) (received y) other)) fewer
 
   -- of two that have as many revisits, k split moves more
@@ -163,11 +163,13 @@ module _ (y : Yard) where
       }
 
       pub fewest-cheapest : FewestOf y Kind row → CheapestOf y Kind row
-      fewest-cheapest f =
-          (f .isOne, λ other k.
+      fewest-cheapest f = (
+        f .isOne,
+        λ other k.
             lexicographic row other .1
             (⊎-elim (λ (l : revisitsOf other ≤ revisitsOf row). let same = le-antisymm (f .revisits other k) l in inr (same, f .splits other k (sym same))) (λ l. inl l)
-            (le-or-lt (revisitsOf other) (revisitsOf row))))
+            (le-or-lt (revisitsOf other) (revisitsOf row))),
+      )
 
     -- order 8, of the best plan
     pub best-fewest : (row : List ℕ) → Best y row → Fewest y row
@@ -176,7 +178,7 @@ module _ (y : Yard) where
   -- ---- a revisit that weighs one split move less: of the cheapest rows some may have more revisits than others, but the best plan has the
   -- fewest, since order 5 puts fewer revisits first
 
-  pub best-fewest-below : 1 ≤ y .split → y .split * allBoxes (y .trains) (received y) ≤ y .revisit + y .split → (row : List ℕ) → Best y row → Fewest y row
+  pub best-fewest-below : 1 ≤ y .split → y .split * boxesOf y ≤ y .revisit + y .split → (row : List ℕ) → Best y row → Fewest y row
   unfolding precedes
   best-fewest-below some-weight enough row b = record {
     isOne = b .isAllowed;

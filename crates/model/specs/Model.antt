@@ -95,9 +95,12 @@ directTo n a row i = sum n (directBoxes a row i)
 unfoldable pub direct : ℕ → (ℕ → ℕ → ℕ) → List ℕ → ℕ
 direct n a row = sum n (directTo n a row)
 
--- all boxes of the day
+-- all boxes
 unfoldable pub allBoxes : ℕ → (ℕ → ℕ → ℕ) → ℕ
 allBoxes n a = sum n λ i. sum n (a i)
+
+abbrev pub boxesOf : Yard → ℕ
+boxesOf y = allBoxes (y .trains) (received y)
 
 -- ---- the cost, equation (1)
 

@@ -10,7 +10,7 @@ use lib.Dec.{eqb}
 use borrow.Author.Tests.{eq-eqb, eqb-true}
 use Rattle.fold.specs.Fold.{sum}
 use Rattle.fold.specs.Sums.{sum-ext, sum-add, sum-zero}
-use Rattle.model.specs.Model.{Yard, received, slotOf, splitBoxes, splitsTo, splits, directBoxes, directTo, direct, allBoxes, Outcome, outcome}
+use Rattle.model.specs.Model.{Yard, received, slotOf, splitBoxes, splitsTo, splits, directBoxes, directTo, direct, allBoxes, boxesOf, Outcome, outcome}
 
 -- a number is counted where a test passes or where it fails
 either-way : (b : Bool) (x : ℕ) → cond b x 0 + cond b 0 x ≡ x
@@ -59,7 +59,7 @@ module _ (n : ℕ) (a : ℕ → ℕ → ℕ) (row : List ℕ) where
 -- ---- of what a call gives on a day
 
 abbrev pub AllMoved : Yard → Outcome → Type 0
-AllMoved y o = o .direct + o .splits ≡ allBoxes (y .trains) (received y)
+AllMoved y o = o .direct + o .splits ≡ boxesOf y
 
 pub all-moved : (y : Yard) (row : List ℕ) → AllMoved y (outcome y row)
 all-moved y row = direct-and-splits (y .trains) (received y) row
