@@ -5,10 +5,10 @@
 --   fewer-cheaper      hence one revisit less is never bought by split moves: of any two rows the one with fewer revisits is cheaper;
 --   lexicographic      and the cost compares rows by revisits, and those with as many by split moves.
 -- So of any rows that one may choose from the cheapest are just those with the fewest revisits and, among these, the fewest split moves
--- (`cheapest-fewest`, `fewest-cheapest`); the best plan is such a row of all allowed ones (`best-fewest`). The order of rows of equal cost
--- has no part in it. It has where a revisit weighs one split move less: `best-fewest-below`.
+-- (`cheapest-fewest`, `fewest-cheapest`; of the allowed ones `fewest-exactly`), and the best plan is such a row (`best-fewest`). The order of
+-- rows of equal cost has no part in it. It has where a revisit weighs one split move less: `best-fewest-below`.
 -- Assumes nothing.
-use mathlib.Core.Path.{_≡_, refl, sym}
+use mathlib.Core.Path.{_≡_, refl, sym, _∙_}
 use mathlib.Core.Bool.{Bool, true, false, cond}
 use mathlib.Core.List.{List}
 use mathlib.Core.Logic.{_↔_, _⊎_, inl, inr, ⊎-elim}
@@ -24,7 +24,7 @@ use Rattle.fold.specs.Counting.{le-or-lt}
 use Rattle.model.specs.Model.{Yard, received, slotOf, supplies, lateSupplier, revisiting, revisits, splitBoxes, splitsTo, splits, allBoxes, boxesOf, weighed, outcome, cost, fitting, allowed, byKey, slotTotal, bySets, precedes, Best}
 use Rattle.model.specs.Moves.{splits-boxes}
 use Rattle.model.specs.Order.{key-less}
-use Rattle.model.specs.Foremost.{CheapestOf}
+use Rattle.model.specs.Foremost.{CheapestOf, Cheapest}
 use Rattle.model.specs.Program.{suggestedWeight}
 
 -- ---- definitions
@@ -66,7 +66,7 @@ reweighed y = record {
 -- ---- the weights
 
 -- the sum of all boxes is the source's own, over the suppliers of each train
-pub suggested-boxes : (y : Yard) → suggestedWeight y ≡ boxesOf y
+suggested-boxes : (y : Yard) → suggestedWeight y ≡ boxesOf y
 unfolding suggestedWeight allBoxes
 suggested-boxes y =
     sum-ext (y .trains) (λ i. sum (y .trains) λ j. cond (supplies (received y) i j) (received y i j) 0) (λ i. sum (y .trains) (received y i))
@@ -76,7 +76,11 @@ suggested-boxes y =
     only zero = refl
     only (suc x) = rw (lt-ltb 0 (suc x) (omega arith))
 
--- order 8's weights do, as does any revisit weight from there on
+-- order 8's weights are those that section 3.1 suggests
+pub suggested-weights : (y : Yard) → SumWeights y ↔ ((y .revisit ≡ suggestedWeight y) × (y .split ≡ 1))
+suggested-weights y = (λ w. (w .0 ∙ sym (suggested-boxes y), w .1), λ w. (w .0 ∙ suggested-boxes y, w .1))
+
+-- a revisit weighs enough from there on, where a split move weighs 1
 pub from-sum-outweighs : (y : Yard) → boxesOf y ≤ y .revisit → y .split ≡ 1 → Outweighs y
 from-sum-outweighs y h e = (omega arith, rw e (omega arith))
 
@@ -171,9 +175,12 @@ module _ (y : Yard) where
             (le-or-lt (revisitsOf other) (revisitsOf row))),
       )
 
-    -- order 8, of the best plan
+    -- of all allowed rows; order 8, of the best plan
+    pub fewest-exactly : (row : List ℕ) → Fewest y row ↔ Cheapest y row
+    fewest-exactly row = (fewest-cheapest (λ r. T (allowed y r)) row, cheapest-fewest (λ r. T (allowed y r)) row)
+
     pub best-fewest : (row : List ℕ) → Best y row → Fewest y row
-    best-fewest row b = cheapest-fewest (λ r. T (allowed y r)) row (b .isAllowed, b .least)
+    best-fewest row b = fewest-exactly row .1 (b .isAllowed, b .least)
 
   -- ---- a revisit that weighs one split move less: of the cheapest rows some may have more revisits than others, but the best plan has the
   -- fewest, since order 5 puts fewer revisits first

@@ -5,17 +5,19 @@
 -- Assumes nothing.
 use mathlib.Core.Path.{_≡_, refl, _∙_, subst}
 use mathlib.Core.List.{List, [], _∷_}
+use mathlib.Core.Logic.{_↔_}
 use Prim.Native.Nat.{ℕ, _≤_}
 use native.Mathlib.Omega.{arith}
 use lib.Dec.{T}
-use Rattle.model.specs.Model.{Yard}
-use Rattle.model.specs.Fewest.{Outweighs, FewestOf, cheapest-fewest}
+use Rattle.model.specs.Model.{Yard, allowed}
+use Rattle.model.specs.Foremost.{CheapestOf}
+use Rattle.model.specs.Fewest.{Outweighs, FewestOf, cheapest-fewest, fewest-cheapest}
 use Rattle.day.specs.Answer.{Answer, gives, refuses}
 use Rattle.day.specs.AnswerLaws.{gives-same, checked-gives, given-before}
 use Rattle.day.specs.Sound.{dayLimits, sound}
 use Rattle.day.specs.Reweighed.{most-outweigh}
 use Rattle.day.specs.declared.Limits.{Limits}
-use Rattle.rolling.specs.Rolling.{Account, State, planOf, KeptRow, BestKept, edited, Call, close, change, cut, closedBy, bestPlan, callChecks, accountMade, accountAfter, begunAccount, begun, orBefore, states, accounts}
+use Rattle.rolling.specs.Rolling.{Account, State, planOf, Keeps, KeptRow, BestKept, edited, Call, close, change, cut, closedBy, bestPlan, callChecks, accountMade, accountAfter, begunAccount, begun, orBefore, states, accounts}
 use Rattle.rolling.specs.States.{sound-state}
 use Rattle.rolling.specs.Follows.{rolling}
 use Rattle.rolling.specs.Exactly.{same-head}
@@ -24,8 +26,13 @@ use Rattle.rolling.specs.Exactly.{same-head}
 abbrev pub FewestKept : Account → List ℕ → Type 0
 FewestKept a = FewestOf (a .day) (KeptRow a)
 
-pub kept-fewest : (a : Account) (row : List ℕ) → Outweighs (a .day) → BestKept a row → FewestKept a row
-kept-fewest a row o b = cheapest-fewest (a .day) o (KeptRow a) row ((b .isAllowed, b .keeps), λ other k. b .least other (k .0) (k .1))
+module _ (a : Account) (row : List ℕ) (o : Outweighs (a .day)) where
+  -- just the cheapest of them
+  pub kept-exactly : FewestKept a row ↔ CheapestOf (a .day) (λ r. T (allowed (a .day) r) × Keeps a r) row
+  kept-exactly = (fewest-cheapest (a .day) o (KeptRow a) row, cheapest-fewest (a .day) o (KeptRow a) row)
+
+  pub kept-fewest : BestKept a row → FewestKept a row
+  kept-fewest b = kept-exactly .1 ((b .isAllowed, b .keeps), λ other k. b .least other (k .0) (k .1))
 
 module _ (l : Limits) (y : Yard) (costs choices : ℕ) (s : State) (taken : begun l y costs choices ≡ gives s) (calls : List Call) where
   pub rolling-fewest : let now = accounts l (begunAccount y) calls in Outweighs (now .day) → FewestKept now (planOf (states l s calls))
