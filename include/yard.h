@@ -63,6 +63,8 @@ uint64_t yard_version(void);
  * file, the two lines of refusals 1 to 7 and 15; or, for a day without a plan, the two lines of refusal 9 or 16.
  * No allowed row is cheaper than the plan. Of those that cost as much none has fewer revisits; of those with as many revisits none has a
  * smaller sum of slot numbers over all trains; of those with the same sum the plan is first by document 01's set numbers.
+ * Where the split weight is 1 and the revisit weight at least the sum of all boxes (33660 always is), the plan has the fewest revisits of
+ * all allowed rows, and the fewest split moves of those that share this fewest.
  *
  * text, text_length   the day file. No byte of it changes.
  * out, out_length     the answer goes into its first bytes; bytes beyond stay as they were. YARD_ANSWER_BYTES always suffice.

@@ -122,23 +122,46 @@ pub fn planned(case: &Case, suffices: bool, numbers: usize) -> (Outcome, Vec<u8>
     (outcome, slots.collect())
 }
 
+/// The memory lent to the call.
+pub struct Memory {
+    pub text: Lent<u8>,
+    pub row: Lent<u8>,
+    pub numbers: Lent<u64>,
+    pub trains: Lent<usize>,
+}
+
+impl Memory {
+    pub fn lent(text: &[u8], row: usize, numbers: usize, marks: Marks) -> Memory {
+        Memory {
+            text: lent_text(text, marks),
+            row: Lent::marked_room("row", row, MOST_TRAINS, marks),
+            numbers: Lent::marked("numbers", numbers, marks),
+            trains: Lent::marked("trains", 1, marks),
+        }
+    }
+
+    /// Makes the call and returns what it returns.
+    pub fn plan(&mut self) -> u64 {
+        let Memory { text, row, numbers, trains } = self;
+        unsafe {
+            sys::yard_plan(
+                text.pointer(),
+                text.length(),
+                row.pointer(),
+                row.length(),
+                numbers.pointer(),
+                numbers.length(),
+                trains.pointer(),
+            )
+        }
+    }
+}
+
 fn compare_one(case: &Case, n: usize, lending: &Lending, marks: Marks) -> Result<(), String> {
-    let mut text = lent_text(case.text, marks);
-    let mut row = Lent::marked_room("row", (lending.row)(n), MOST_TRAINS, marks);
-    let mut numbers = Lent::marked("numbers", lending.numbers, marks);
-    let mut trains = Lent::marked("trains", 1, marks);
+    let mut memory = Memory::lent(case.text, (lending.row)(n), lending.numbers, marks);
+    let got = memory.plan();
+    let Memory { text, row, numbers, trains } = &memory;
     let (outcome, slots) = planned(case, row.length() >= n, numbers.length());
-    let got = unsafe {
-        sys::yard_plan(
-            text.pointer(),
-            text.length(),
-            row.pointer(),
-            row.length(),
-            numbers.pointer(),
-            numbers.length(),
-            trains.pointer(),
-        )
-    };
     returned(got, outcome.refusal)?;
     numbers.holds(&outcome.written(numbers.length()))?;
     if got == 0 {

@@ -1,7 +1,8 @@
 //! What 01 says: its days with known outcome, P5 as order 5 of 02 changes it and
 //! all with the direct moves of order 6, and its examples of refusals; and days
 //! made by hand for the baselines of order 1. Those of order 4 stand in
-//! known_sets.rs, of order 5 in known_ties.rs, of order 6 in known_direct.rs.
+//! known_sets.rs, of order 5 in known_ties.rs, of order 6 in known_direct.rs, of
+//! order 8 in known_fewest.rs.
 
 use crate::day_file::{HEAD_NAMES, MOVE_NAMES, TRAIN_NAMES};
 use crate::model::Numbers;

@@ -32,6 +32,15 @@
 //! five functions (moving_standin.rs) make each of a list of mistakes
 //! (mismoving.rs), which the lists have to tell.
 //!
+//! Order 8 of 02 is a statement about plans: fewest.rs goes through all allowed rows
+//! in a way of its own, looks at no weight, and has the fewest revisits and the
+//! fewest split moves beside them. Mode fewest holds to these two the plans of the
+//! library and of the program, on days drawn for it (draw_fewest.rs) with weights
+//! that the order speaks of (fewest_weights.rs), and the plans of moving days
+//! (fewest_moving.rs). Mode weights holds tools/lexicographic to what it has to
+//! write (weights_texts.rs). Mode self has planners, enumerations and tools that
+//! make mistakes (misweighings.rs, mismoving_fewest.rs, misrewritings.rs).
+//!
 //!     days expect < day.txt        prints what yard-plan has to print
 //!     days examples PROGRAM DIR    runs the stored days of DIR
 //!     days generated PROGRAM       runs known and drawn days and damaged texts
@@ -42,6 +51,12 @@
 //!                                  valuing, the version
 //!     days moving                  calls the five functions of a moving day in
 //!                                  lists, and on the texts of calls
+//!     days fewest PROGRAM          holds plans of the library and of the program
+//!                                  to order 8
+//!     days weights TOOL            runs tools/lexicographic on day files and on
+//!                                  texts that are none
+//!     days below                   looks for days on which a smaller weight does
+//!                                  not suffice; it tests nothing
 //!     days stack FUNCTION          calls one with little stack, for calls and
 //!                                  moving
 //!     days self                    checks this program on known days, and that
@@ -59,6 +74,7 @@
 mod account;
 mod account_plan;
 mod baselines;
+mod below;
 mod boxes;
 mod call_answer;
 mod call_check;
@@ -73,16 +89,25 @@ mod day_file;
 mod draft;
 mod draw;
 mod draw_direct;
+mod draw_fewest;
 mod draw_moving;
 mod draw_sets;
 mod draw_states;
 mod draw_ties;
+mod fewest;
+mod fewest_moving;
+mod fewest_moving_seen;
+mod fewest_plans;
+mod fewest_run;
+mod fewest_seen;
+mod fewest_weights;
 mod generated;
 mod groups;
 mod header;
 mod heavy;
 mod known;
 mod known_direct;
+mod known_fewest;
 mod known_moving;
 mod known_sets;
 mod known_ties;
@@ -93,6 +118,7 @@ mod misjudgings;
 mod mismoving;
 mod mismoving_checks;
 mod mismoving_edits;
+mod mismoving_fewest;
 mod mismoving_limits;
 mod mismoving_numbers;
 mod mismoving_plans;
@@ -102,8 +128,10 @@ mod misplannings;
 mod misreaders;
 mod misreadings;
 mod misreports;
+mod misrewritings;
 mod missteps;
 mod misvaluings;
+mod misweighings;
 mod model;
 mod moving;
 mod moving_call;
@@ -126,6 +154,7 @@ mod self_baselines;
 mod self_calls;
 mod self_check;
 mod self_direct;
+mod self_fewest;
 mod self_moving;
 mod self_search;
 mod self_sets;
@@ -138,9 +167,13 @@ mod texts;
 mod threads;
 mod trials;
 mod valuing;
+mod weights;
+mod weights_texts;
 
 use crate::baselines::baselines;
+use crate::below::below;
 use crate::calls::calls;
+use crate::fewest_run::fewest_of_all;
 use crate::generated::generated;
 use crate::groups::Tests;
 use crate::model::MOST_BYTES_READ;
@@ -149,6 +182,7 @@ use crate::plan::expected;
 use crate::process::{compare_file, escaped};
 use crate::self_check::check_self;
 use crate::stack::little_stack;
+use crate::weights::weights;
 use std::collections::BTreeSet;
 use std::fs::{self, File};
 use std::io::{self, Read, Write};
@@ -230,11 +264,14 @@ fn main() -> ExitCode {
         ["baselines"] => baselines(),
         ["calls"] => calls(),
         ["moving"] => moving(),
+        ["fewest", program] => fewest_of_all(program),
+        ["weights", tool] => weights(tool),
+        ["below"] => below(),
         ["stack", name] => little_stack(name),
         ["self"] => check_self(),
         _ => {
-            let modes =
-                "expect | examples PROGRAM DIR | generated PROGRAM | baselines | calls | moving | self";
+            let modes = "expect | examples PROGRAM DIR | generated PROGRAM | baselines | calls | \
+                         moving | fewest PROGRAM | weights TOOL | below | self";
             eprintln!("usage: days {modes}");
             return ExitCode::from(2);
         }

@@ -10,8 +10,7 @@ use crate::moving_required::{by, required, EACH};
 use crate::moving_rules::named_checks;
 use crate::moving_texts::compare_texts;
 use crate::moving_walk::{compare, Walk};
-use crate::plan::broken;
-use crate::seen::{Seen, LEAST_SEEN};
+use crate::seen::{require_all, Seen, LEAST_SEEN};
 use crate::stack::compare_moving_in_little_stack;
 use crate::threads::move_at_once;
 
@@ -58,21 +57,6 @@ fn drawn_lists(tests: &mut Tests, seen: &mut Seen) {
     println!("{lists} lists, {calls} calls");
 }
 
-fn require_all(tests: &mut Tests, seen: &Seen) {
-    let required = required();
-    if let Some(what) = seen.not_in(&required) {
-        broken(&format!("{what} is counted and not required"));
-    }
-    for what in &required {
-        let count = seen.count(what);
-        let seldom = format!("{what}: seen {count} times, {LEAST_SEEN} are needed");
-        tests.check(count >= LEAST_SEEN, &seldom);
-    }
-    if let Some((count, what)) = required.iter().map(|what| (seen.count(what), what)).min() {
-        println!("{} things to see, least often {what}, {count} times", required.len());
-    }
-}
-
 /// How often each function was taken, and refused with what.
 fn print_counts(seen: &Seen) {
     for asked in EACH {
@@ -92,7 +76,7 @@ pub fn moving() -> bool {
     compare_texts(&mut tests);
     drawn_lists(&mut tests, &mut seen);
     if !tests.stopped() {
-        require_all(&mut tests, &seen);
+        require_all(&mut tests, &seen, &required(), LEAST_SEEN);
         move_at_once(&mut tests);
         compare_moving_in_little_stack(&mut tests);
     }

@@ -1,10 +1,11 @@
 //! Running the program under test and comparing its output.
 
 use crate::model::MOST_BYTES_READ;
+use std::fmt;
 use std::fs::File;
 use std::io::{self, Read, Seek, Write};
 use std::path::Path;
-use std::process::{Child, ChildStdin, Command, Stdio};
+use std::process::{Child, ChildStdin, Command, ExitStatus, Stdio};
 use std::sync::mpsc;
 use std::thread;
 use std::time::Duration;
@@ -49,13 +50,13 @@ fn read_whole(stream: Option<impl Read>) -> Vec<u8> {
     bytes
 }
 
-fn start(program: &str, feed: Feed) -> Result<Child, String> {
+fn start(program: &str, arguments: &[&Path], feed: Feed) -> Result<Child, String> {
     let (stdin, pieces) = match feed {
         Feed::Pipe(pieces) => (Stdio::piped(), pieces),
         Feed::File(file) => (Stdio::from(file), Vec::new()),
     };
     let mut command = Command::new(program);
-    command.stdin(stdin).stdout(Stdio::piped()).stderr(Stdio::piped());
+    command.args(arguments).stdin(stdin).stdout(Stdio::piped()).stderr(Stdio::piped());
     let mut child =
         command.spawn().map_err(|error| format!("{program} does not start: {error}"))?;
     if let Some(pipe) = child.stdin.take() {
@@ -65,9 +66,23 @@ fn start(program: &str, feed: Feed) -> Result<Child, String> {
     Ok(child)
 }
 
-/// The program's standard output, or what went wrong beside it.
-fn run(program: &str, feed: Feed) -> Result<Vec<u8>, String> {
-    let mut child = start(program, feed)?;
+/// What a run has left.
+pub struct Ended {
+    pub status: ExitStatus,
+    pub output: Vec<u8>,
+    pub errors: Vec<u8>,
+}
+
+impl fmt::Display for Ended {
+    fn fmt(&self, f: &mut fmt::Formatter) -> fmt::Result {
+        let (output, errors) = (escaped(&self.output), escaped(&self.errors));
+        write!(f, "{}, standard error \"{errors}\", output \"{output}\"", self.status)
+    }
+}
+
+/// Runs a program to its end, whatever that is.
+pub fn run_to_end(program: &str, arguments: &[&Path], feed: Feed) -> Result<Ended, String> {
+    let mut child = start(program, arguments, feed)?;
     let (output, errors) = (child.stdout.take(), child.stderr.take());
     let (sender, receiver) = mpsc::channel();
     thread::spawn(move || sender.send((read_whole(output), read_whole(errors))));
@@ -80,11 +95,16 @@ fn run(program: &str, feed: Feed) -> Result<Vec<u8>, String> {
     let Ok((output, errors)) = streams else {
         return Err(format!("no end within {LONGEST_RUN:?}"));
     };
-    if status.code() != Some(0) || !errors.is_empty() {
-        let (output, errors) = (escaped(&output), escaped(&errors));
-        return Err(format!("{status}, standard error \"{errors}\", output \"{output}\""));
+    Ok(Ended { status, output, errors })
+}
+
+/// The program's standard output, or what went wrong beside it.
+pub fn run(program: &str, feed: Feed) -> Result<Vec<u8>, String> {
+    let ended = run_to_end(program, &[], feed)?;
+    if ended.status.code() != Some(0) || !ended.errors.is_empty() {
+        return Err(ended.to_string());
     }
-    Ok(output)
+    Ok(ended.output)
 }
 
 /// Runs the program and compares; an error says what differs.

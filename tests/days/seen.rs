@@ -1,5 +1,7 @@
 //! Counting what was tried, for what was seen too seldom has not been tested.
 
+use crate::groups::Tests;
+use crate::plan::broken;
 use std::collections::BTreeMap;
 
 pub const LEAST_SEEN: usize = 30;
@@ -29,5 +31,21 @@ impl Seen {
     /// What was noted though nobody requires it: a slip of the pen.
     pub fn not_in(&self, required: &[String]) -> Option<&String> {
         self.0.keys().find(|what| !required.contains(what))
+    }
+}
+
+/// Each thing that is required was seen so often at least, and nothing else was
+/// counted.
+pub fn require_all(tests: &mut Tests, seen: &Seen, required: &[String], least: usize) {
+    if let Some(what) = seen.not_in(required) {
+        broken(&format!("{what} is counted and not required"));
+    }
+    for what in required {
+        let count = seen.count(what);
+        let seldom = format!("{what}: seen {count} times, {least} are needed");
+        tests.check(count >= least, &seldom);
+    }
+    if let Some((count, what)) = required.iter().map(|what| (seen.count(what), what)).min() {
+        println!("{} things to see, least often {what}, {count} times", required.len());
     }
 }

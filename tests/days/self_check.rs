@@ -16,6 +16,7 @@ use crate::plan::{allowed, answer, best, expected, Answer};
 use crate::self_baselines::check_baselines;
 use crate::self_calls::check_calls;
 use crate::self_direct::check_direct;
+use crate::self_fewest::check_fewest;
 use crate::self_moving::check_moving;
 use crate::self_search::check_search;
 use crate::self_sets::check_sets;
@@ -179,5 +180,6 @@ pub fn check_self() -> bool {
     check_ties(&mut tests);
     check_direct(&mut tests);
     check_moving(&mut tests);
+    check_fewest(&mut tests);
     tests.finish()
 }

@@ -9,6 +9,7 @@ use crate::draw_ties::{draw_changed, draw_tied};
 use crate::heavy::{draw_shown, SHOWN_BITS};
 use crate::known::{BaselineDay, BASELINE_DAYS, EDGES, KNOWN_DAYS, SMALL_INPUTS, TEXTS};
 use crate::known_direct::{DIRECT_BASELINE_DAYS, DIRECT_DAYS, DIRECT_TIES, GREAT_DAYS};
+use crate::known_fewest::FEWEST_DAYS;
 use crate::known_sets::{GROUPED_BASELINE_DAYS, GROUPED_DAYS, GROUP_EDGES, GROUP_TEXTS};
 use crate::known_ties::TIED_DAYS;
 use crate::model::Day;
@@ -41,7 +42,8 @@ pub fn known_texts() -> impl Iterator<Item = Named> {
     let days = KNOWN_DAYS.iter().chain(&SMALL_INPUTS).chain(&EDGES);
     let days = days.chain(&GROUPED_DAYS).chain(&GROUP_EDGES);
     let days = days.chain(TIED_DAYS.iter().chain(&DIRECT_TIES).map(|tied| &tied.day));
-    let days = days.chain(&DIRECT_DAYS).map(|day| (day.name.to_string(), day.text()));
+    let days = days.chain(&DIRECT_DAYS).chain(&FEWEST_DAYS);
+    let days = days.map(|day| (day.name.to_string(), day.text()));
     let texts = TEXTS.iter().chain(&GROUP_TEXTS);
     let texts = texts.map(|(name, text, _)| (name.to_string(), text.as_bytes().to_vec()));
     let great = GREAT_DAYS.iter().map(|great| (great.name.to_string(), write_day(&(great.day)())));

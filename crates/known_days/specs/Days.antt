@@ -72,11 +72,11 @@ paperDay revisit split first4 =
     dayOf 4 2 2 revisit split (1 ∷ 1 ∷ 1 ∷ first4 ∷ []) (2 ∷ 2 ∷ 2 ∷ 2 ∷ [])
     (move 1 4 1 ∷ move 3 1 3 ∷ move 3 4 5 ∷ move 4 2 6 ∷ move 4 3 1 ∷ [])
 
--- train 1 receives a box from train 2 and five from train 3, which is bound to slot 1. Trains 2 and 4 fill slot 2, so train 1 is served with 3,
--- and comes back for the box, or after both. The weight of a revisit; that of a split move is 1
-unfoldable pub sixBoxes : ℕ → Day
+-- three boxes, and the weight of a revisit; that of a split move is 1. Train 1 is bound to slot 2 and train 4 to slot 1, so trains 2 and 3
+-- have a slot each: two rows are allowed. The smallest such day that the test program found (`days below`)
+unfoldable pub threeBoxes : ℕ → Day
 unfolding dayOf
-sixBoxes revisit = dayOf 4 2 3 revisit 1 (1 ∷ 2 ∷ 1 ∷ 2 ∷ []) (3 ∷ 2 ∷ 1 ∷ 2 ∷ []) (move 1 2 1 ∷ move 1 3 5 ∷ [])
+threeBoxes revisit = dayOf 4 2 2 revisit 1 (2 ∷ 1 ∷ 1 ∷ 1 ∷ []) (2 ∷ 2 ∷ 2 ∷ 1 ∷ []) (move 1 3 1 ∷ move 2 3 1 ∷ move 2 4 1 ∷ [])
 
 -- two trains with numbers of their own, and moves
 unfoldable pub numbered : List ℕ → List Move → Day

@@ -30,7 +30,7 @@ use Rattle.procedures.specs.Procedures.{trackFree, waits, suits, earliest, come
 use Rattle.comparing.specs.Comparing.{Comparison, against}
 use Rattle.baselines.specs.Baselines.{compared}
 use Rattle.known_days.specs.Lines.{Line, values, best, later, refused, unkept, summed, fewest, accepted, plans, compares, comparesIn, Holds, sameOutcome, sameInt, sameComparison, sameAnswer, isRow, isNone, isInterval, noInterval, sumWeights, noFewer, isFewest, passes, line-holds}
-use Rattle.known_days.specs.Days.{move, dayOf, openDay, weightless, fromTwelve, paired, oneWay, fullest, paperDay, sixBoxes, numbered, inGroups}
+use Rattle.known_days.specs.Days.{move, dayOf, openDay, weightless, fromTwelve, paired, oneWay, fullest, paperDay, threeBoxes, numbered, inGroups}
 
 -- ---- the table
 
@@ -38,7 +38,7 @@ abbrev pub saving : Outcome → ℕ → Answer Comparison
 saving o saved = gives record { outcome = o; saving = pos saved }
 
 unfoldable pub table : List Line
-unfolding dayOf openDay weightless fromTwelve paired oneWay fullest paperDay sixBoxes numbered inGroups
+unfolding dayOf openDay weightless fromTwelve paired oneWay fullest paperDay threeBoxes numbered inGroups
 table =
     -- P1 to P3, the source's example
     best (paperDay 1 1 1) (2 ∷ 1 ∷ 2 ∷ 1 ∷ []) (figures 1 7 9 8)
@@ -120,14 +120,14 @@ table =
     ∷ summed (dayOf 2 1 2 0 1 (replicate 2 1) (replicate 2 2) []) true
     ∷ best (dayOf 2 1 2 0 1 (replicate 2 1) (replicate 2 2) []) (2 ∷ 1 ∷ []) (figures 0 0 0 0)
     ∷ fewest (dayOf 2 1 2 0 1 (replicate 2 1) (replicate 2 2) []) (2 ∷ 1 ∷ []) 0 0
-    -- how great the weight has to be, on a day of six boxes with two allowed rows: from 6 on the row without a revisit is the cheaper one; at 5
-    -- both cost 6, and order 5 puts it first; at 4 the plan is the other one, though it has a revisit
-    ∷ summed (sixBoxes 6) true
-    ∷ best (sixBoxes 6) (3 ∷ 2 ∷ 1 ∷ 2 ∷ []) (figures 0 6 0 6)
-    ∷ best (sixBoxes 5) (3 ∷ 2 ∷ 1 ∷ 2 ∷ []) (figures 0 6 0 6)
-    ∷ later (sixBoxes 5) (3 ∷ 2 ∷ 1 ∷ 2 ∷ []) (1 ∷ 2 ∷ 1 ∷ 2 ∷ []) 6
-    ∷ best (sixBoxes 4) (1 ∷ 2 ∷ 1 ∷ 2 ∷ []) (figures 1 1 5 5)
-    ∷ fewest (sixBoxes 4) (3 ∷ 2 ∷ 1 ∷ 2 ∷ []) 0 6
+    -- how great the weight has to be, on a day of three boxes with two allowed rows: from 3 on the row without a revisit is the cheaper one; at
+    -- 2 both cost 3, and order 5 puts it first; at 1 the plan is the other one, though it has a revisit
+    ∷ summed (threeBoxes 3) true
+    ∷ best (threeBoxes 3) (2 ∷ 2 ∷ 1 ∷ 1 ∷ []) (figures 0 3 0 3)
+    ∷ best (threeBoxes 2) (2 ∷ 2 ∷ 1 ∷ 1 ∷ []) (figures 0 3 0 3)
+    ∷ later (threeBoxes 2) (2 ∷ 2 ∷ 1 ∷ 1 ∷ []) (2 ∷ 1 ∷ 2 ∷ 1 ∷ []) 3
+    ∷ best (threeBoxes 1) (2 ∷ 1 ∷ 2 ∷ 1 ∷ []) (figures 1 1 2 2)
+    ∷ fewest (threeBoxes 1) (2 ∷ 2 ∷ 1 ∷ 1 ∷ []) 0 3
     -- the limits of the head on both sides: trains and tracks 1 and 12, 0 and 13; slots 1 and 8, 0 and 9; weights 0 and 65535, 65536
     ∷ accepted (openDay 12 12 8 []) true
     ∷ accepted (openDay 1 1 1 []) true
