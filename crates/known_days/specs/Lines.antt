@@ -108,11 +108,12 @@ noInterval (some w) = false
 unfoldable pub sumWeights : Yard → Bool
 sumWeights y = eqb (y .revisit) (boxesOf y) && eqb (y .split) 1
 
--- another row that is allowed has more revisits, or as many and no fewer split moves
+-- another row that is allowed has no fewer revisits, and more of them or no fewer split moves
 unfoldable pub noFewer : Yard → List ℕ → List ℕ → Bool
 noFewer y row other =
-    not (allowed y other) || ltb (outcome y row .revisits) (outcome y other .revisits)
-    || (eqb (outcome y row .revisits) (outcome y other .revisits) && leb (outcome y row .splits) (outcome y other .splits))
+    not (allowed y other)
+    || (leb (outcome y row .revisits) (outcome y other .revisits)
+    && (ltb (outcome y row .revisits) (outcome y other .revisits) || leb (outcome y row .splits) (outcome y other .splits)))
 
 unfoldable pub isFewest : Yard → List ℕ → Bool
 isFewest y row = allowed y row && allPass (noFewer y row) (allRows (y .trains) (y .slots))
@@ -237,16 +238,13 @@ module _ (d : Day) where
       let y = yard d in
       let p = outcome y row in
       let q = outcome y other in
-      ⊎-elim
+      let more = ltb (p .revisits) (q .revisits) in
+      let few = leb (p .splits) (q .splits) in
+      ⊎-elim (λ u. absurd (not-of (allowed y other) u a))
       (λ u.
-      ⊎-elim (λ v. absurd (not-of (allowed y other) v a))
-      (λ (v : T (ltb (p .revisits) (q .revisits))). let l = ltb→lt (p .revisits) (q .revisits) v in (omega arith, λ e. omega arith))
-      (either-of (not (allowed y other)) (ltb (p .revisits) (q .revisits)) u))
-      (λ u.
-      let (v, w) = both-of (eqb (p .revisits) (q .revisits)) (leb (p .splits) (q .splits)) u in
-      let same = eqb→eq (p .revisits) (q .revisits) v in
-      (omega arith, λ e. leb→le (p .splits) (q .splits) w))
-      (either-of (not (allowed y other) || ltb (p .revisits) (q .revisits)) (eqb (p .revisits) (q .revisits) && leb (p .splits) (q .splits)) t)
+      let (v, w) = both-of (leb (p .revisits) (q .revisits)) (more || few) u in
+      (leb→le (p .revisits) (q .revisits) v, λ same. ⊎-elim (λ m. absurd (omega (arith, ltb→lt (p .revisits) (q .revisits) m))) (λ f. leb→le (p .splits) (q .splits) f) (either-of more few w)))
+      (either-of (not (allowed y other)) (leb (p .revisits) (q .revisits) && (more || few)) t)
 
   fewest-holds : (row : List ℕ) (r s : ℕ) → T (passes (fewest d row r s)) → Holds (fewest d row r s)
   unfolding passes isFewest
