@@ -1,6 +1,5 @@
-"""Reading files of the yard slot planner: names lines with rows of numbers below them, and the day file (docs/FORMAT.md).
-
-Shared by the scripts of this folder. It holds a day file to its rules, but names no refusal: yard-plan does that.
+"""What the scripts of this folder share: reading files of the yard slot planner, names lines with rows of numbers below them, and
+the day file (docs/FORMAT.md); printing an answer. A day file is held to its rules, but no refusal is named: yard-plan does that.
 """
 import re
 import sys
@@ -31,10 +30,22 @@ def rising(keys):
 
 def read_text(path):
     """The file's text, or that of standard input where the path is '-'."""
-    if path == "-":
-        return sys.stdin.buffer.read().decode("ascii", "replace")
-    with open(path, "rb") as file:
+    with open(0 if path == "-" else path, "rb") as file:
         return file.read().decode("ascii", "replace")
+
+def print_answer(script, answer):
+    """Prints what answer() gives. Where there is no answer, or it cannot be written: a message on standard error, exit status 1."""
+    try:
+        text = answer()
+    except Refused as reason:
+        sys.exit(f"{script}: {reason}")
+    except OSError as reason:
+        sys.exit(f"{script}: {reason.filename or 'standard input'}: {reason.strerror}")
+    try:
+        with open(1, "w", encoding="utf-8") as out:  # sys.stdout may be written after the last line here, where nothing is caught
+            out.write(text)
+    except OSError as reason:
+        sys.exit(f"{script}: standard output: {reason.strerror}")
 
 def sections(path, text):
     """The text's names lines, and for each the rows of numbers below it."""
@@ -76,4 +87,8 @@ def groups_of(path, windows, rows):
         demand(1 <= group <= 12 and train in windows, f"{path}: the row {group} {train} of the groups is not possible")
     demand(len({train for _, train in rows}) == len(rows), f"{path}: a train is listed twice among the groups")
     demand(rising(rows), f"{path}: the pairs of the groups do not rise")
-    return {group: [train for train in windows if (group, train) in rows] for group in sorted({group for group, _ in rows})}
+    group_of = {train: group for group, train in rows}
+    groups = {group: [] for group, _ in rows}
+    for train in filter(group_of.get, windows):
+        groups[group_of[train]].append(train)
+    return groups

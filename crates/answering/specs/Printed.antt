@@ -3,8 +3,8 @@
 --     refusal 9 with the first overbooked interval of that day, which has no allowed row, and the number of trains bound inside;
 --     refusal 16 with 0, where that day has no allowed row and no interval is overbooked;
 --     a refusal, 1 to 7 or 15, with its line, where the text reads to no day.
--- Where the day has the weights of order 8 of document 02, the plan's row has the fewest revisits of all allowed rows, and the fewest split
--- moves of those that share this fewest (`fewest-printed`).
+-- Where a revisit weighs at least as much as split moves of all boxes, as with the weights of order 8 of document 02, the plan's row has the
+-- fewest revisits of all allowed rows, and the fewest split moves of those that share this fewest (`fewest-printed`).
 -- `answerText` is what `answer_text` gives for the text (crates/answering/src/lib.rt) and what the program yard-plan prints.
 -- Assumes nothing.
 use mathlib.Core.Path.{_≡_, refl, sym, ap, _∙_, subst}
@@ -16,7 +16,7 @@ use lib.Dec.{T}
 use Rattle.model.specs.Model
 use Rattle.model.specs.Model.{Yard, outcome, Best, SomeRow, NoRow, FirstOverbooked, boundInside}
 use Rattle.model.specs.BestOf.{bestOf, is-best, is-none}
-use Rattle.model.specs.Fewest.{SumWeights, Fewest, sum-outweighs, best-fewest}
+use Rattle.model.specs.Fewest.{Outweighs, Fewest, best-fewest}
 use Rattle.model.specs.Overbooked.{Interval, firstOverbooked, SaysFirst, first-says}
 use Rattle.day.specs.Answer.{Answer, gives, refuses}
 use Rattle.day.specs.AnswerLaws.{gives-same, Only}
@@ -61,15 +61,15 @@ module _ (text : List ℕ) where
   printed = printed-by (readDay dayLimits text) refl
 
   -- order 8, of a day that has an allowed row
-  pub fewest-printed : (y : Yard) → readDay dayLimits text ≡ gives y → SumWeights y → SomeRow y
+  pub fewest-printed : (y : Yard) → readDay dayLimits text ≡ gives y → Outweighs y → SomeRow y
       → (row : List ℕ) × Fewest y row × (answerText dayLimits text ≡ planLines (y .trains) (y .numbers) (outcome y row) row)
-  fewest-printed y e w some-row = go printed
+  fewest-printed y e o some-row = go printed
     where
       -- of the four only a plan is printed, and the day is the one that is read
       go : Printed text (answerText dayLimits text) → (row : List ℕ) × Fewest y row × (answerText dayLimits text ≡ planLines (y .trains) (y .numbers) (outcome y row) row)
       go (plan z row r b is) =
           let same : z ≡ y = gives-same (sym r ∙ e) in
-          (row, best-fewest y (sum-outweighs y w) row (subst (λ d. Best d row) same b), is ∙ ap (λ d. planLines (d .trains) (d .numbers) (outcome d row) row) same)
+          (row, best-fewest y o row (subst (λ d. Best d row) same b), is ∙ ap (λ d. planLines (d .trains) (d .numbers) (outcome d row) row) same)
       go (overbooked z a b r nowhere f is) = absurd (subst NoRow (gives-same (sym r ∙ e)) nowhere (some-row .0) (some-row .1))
       go (unkept z r nowhere spacious is) = absurd (subst NoRow (gives-same (sym r ∙ e)) nowhere (some-row .0) (some-row .1))
       go (unread k line which counted r nothing is) = absurd (nothing y e)

@@ -73,7 +73,7 @@ paperDay revisit split first4 =
     (move 1 4 1 ∷ move 3 1 3 ∷ move 3 4 5 ∷ move 4 2 6 ∷ move 4 3 1 ∷ [])
 
 -- three boxes, and the weight of a revisit; that of a split move is 1. Train 1 is bound to slot 2 and train 4 to slot 1, so trains 2 and 3
--- have a slot each: two rows are allowed. The smallest such day that the test program found (`days below`)
+-- have a slot each: two rows are allowed. The smallest day that the test program found (`days below`) on which a weight above 0 is too small
 unfoldable pub threeBoxes : ℕ → Day
 unfolding dayOf
 threeBoxes revisit = dayOf 4 2 2 revisit 1 (2 ∷ 1 ∷ 1 ∷ 1 ∷ []) (2 ∷ 2 ∷ 2 ∷ 1 ∷ []) (move 1 3 1 ∷ move 2 3 1 ∷ move 2 4 1 ∷ [])

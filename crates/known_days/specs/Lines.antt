@@ -35,7 +35,7 @@ pub data Line : Type 0 where
   later : Day → List ℕ → List ℕ → ℕ → Line
   refused : Day → ℕ → ℕ → ℕ → Line
   unkept : Day → Line
-  summed : Day → Bool → Line
+  hasSumWeights : Day → Bool → Line
   fewest : Day → List ℕ → ℕ → ℕ → Line
   accepted : Day → Bool → Line
   plans : Day → ℕ → ℕ → ℕ → Answer Outcome → Line
@@ -55,8 +55,8 @@ Holds (refused d a b k) = NoRow (yard d) × FirstOverbooked (yard d) a b × (bou
 -- no row is allowed, and no interval is overbooked
 Holds (unkept d) = NoRow (yard d) × ((a b : ℕ) → T (overbooked (yard d) a b) → ⊥)
 -- the day has the weights of order 8, or not
-Holds (summed d true) = SumWeights (yard d)
-Holds (summed d false) = SumWeights (yard d) → ⊥
+Holds (hasSumWeights d true) = SumWeights (yard d)
+Holds (hasSumWeights d false) = SumWeights (yard d) → ⊥
 -- the row has the fewest revisits of all allowed rows, and the fewest split moves of those that share this fewest: so many of each
 Holds (fewest d row r s) = Fewest (yard d) row × (outcome (yard d) row .revisits ≡ r) × (outcome (yard d) row .splits ≡ s)
 -- the record is sound, or not
@@ -125,7 +125,7 @@ passes (later d r s c) =
     allowed (yard d) r && allowed (yard d) s && eqb (cost (yard d) r) c && eqb (cost (yard d) s) c && precedes (yard d) r s
 passes (refused d a b k) = isNone (bestOf (yard d)) && isInterval (firstOverbooked (yard d)) a b && eqb (boundInside (yard d) a b) k
 passes (unkept d) = isNone (bestOf (yard d)) && noInterval (firstOverbooked (yard d))
-passes (summed d b) = cond b (sumWeights (yard d)) (not (sumWeights (yard d)))
+passes (hasSumWeights d b) = cond b (sumWeights (yard d)) (not (sumWeights (yard d)))
 passes (fewest d row r s) = isFewest (yard d) row && eqb (outcome (yard d) row .revisits) r && eqb (outcome (yard d) row .splits) s
 passes (plans d costs choices bytes a) = sameAnswer sameOutcome (planned dayLimits (yard d) costs choices bytes) a
 passes (accepted d b) = cond b (sound dayLimits (yard d)) (not (sound dayLimits (yard d)))
@@ -219,13 +219,13 @@ module _ (d : Day) where
       let (q, w) = both-of (isNone (bestOf y)) (noInterval (firstOverbooked y)) t in
       (is-none y (no-row (bestOf y) q), none-over (firstOverbooked y) (first-says y) w)
 
-  summed-holds : (b : Bool) → T (passes (summed d b)) → Holds (summed d b)
+  sum-weights-hold : (b : Bool) → T (passes (hasSumWeights d b)) → Holds (hasSumWeights d b)
   unfolding passes sumWeights
-  summed-holds true t =
+  sum-weights-hold true t =
       let y = yard d in
       let (v, w) = both-of (eqb (y .revisit) (boxesOf y)) (eqb (y .split) 1) t in
       (eqb→eq (y .revisit) (boxesOf y) v, eqb→eq (y .split) 1 w)
-  summed-holds false t =
+  sum-weights-hold false t =
       let y = yard d in
       λ h. not-of (sumWeights y) t (both (eqb (y .revisit) (boxesOf y)) (eqb (y .split) 1) (of-true (eq-eqb (y .revisit) (boxesOf y) (h .0))) (of-true (eq-eqb (y .split) 1 (h .1))))
 
@@ -255,7 +255,7 @@ module _ (d : Day) where
       let (a, others) = both-of (allowed y row) (allPass (noFewer y row) (allRows (y .trains) (y .slots))) v in
       let against : (other : List ℕ) → T (allowed y other) → T (noFewer y row other) =
       λ other k. all-hold (noFewer y row) (λ r. T (noFewer y row r)) (λ r h. h) (allRows (y .trains) (y .slots)) others other (allowed-listed y other k) in (
-        record { isOne = a; revisits = λ other k. no-fewer row other (against other k) k .0; splits = λ other k. no-fewer row other (against other k) k .1 },
+        record { isOfKind = a; revisits = λ other k. no-fewer row other (against other k) k .0; splits = λ other k. no-fewer row other (against other k) k .1 },
         eqb→eq (outcome y row .revisits) r revisits,
         eqb→eq (outcome y row .splits) s splits,
       )
@@ -274,7 +274,7 @@ line-holds (best d row o) t =
 line-holds (later d r s c) t = later-holds d r s c t
 line-holds (refused d a b k) t = refused-holds d a b k t
 line-holds (unkept d) t = unkept-holds d t
-line-holds (summed d b) t = summed-holds d b t
+line-holds (hasSumWeights d b) t = sum-weights-hold d b t
 line-holds (fewest d row r s) t = fewest-holds d row r s t
 line-holds (accepted d b) t = accepted-holds d b t
 line-holds (plans d costs choices bytes a) t = same-answer sameOutcome same-outcome (planned dayLimits (yard d) costs choices bytes) a t

@@ -29,7 +29,7 @@ use Rattle.planning.specs.Planning.{planned}
 use Rattle.procedures.specs.Procedures.{trackFree, waits, suits, earliest, comeTo, firstCome, waitingSupplier, priority, select, fillTo, servedTo, myopic}
 use Rattle.comparing.specs.Comparing.{Comparison, against}
 use Rattle.baselines.specs.Baselines.{compared}
-use Rattle.known_days.specs.Lines.{Line, values, best, later, refused, unkept, summed, fewest, accepted, plans, compares, comparesIn, Holds, sameOutcome, sameInt, sameComparison, sameAnswer, isRow, isNone, isInterval, noInterval, sumWeights, noFewer, isFewest, passes, line-holds}
+use Rattle.known_days.specs.Lines.{Line, values, best, later, refused, unkept, hasSumWeights, fewest, accepted, plans, compares, comparesIn, Holds, sameOutcome, sameInt, sameComparison, sameAnswer, isRow, isNone, isInterval, noInterval, sumWeights, noFewer, isFewest, passes, line-holds}
 use Rattle.known_days.specs.Days.{move, dayOf, openDay, weightless, fromTwelve, paired, oneWay, fullest, paperDay, threeBoxes, numbered, inGroups}
 
 -- ---- the table
@@ -104,12 +104,15 @@ table =
     ∷ values (openDay 12 12 8 (oneWay 12)) (1 ∷ 2 ∷ 3 ∷ 4 ∷ 5 ∷ 6 ∷ 7 ∷ 8 ∷ 8 ∷ 7 ∷ 6 ∷ 5 ∷ []) (gives (figures 3 5876 482 5879))
     ∷ values (openDay 11 11 8 (oneWay 11)) (7 ∷ 7 ∷ 7 ∷ 5 ∷ 5 ∷ 5 ∷ 6 ∷ 6 ∷ 6 ∷ 8 ∷ 8 ∷ []) (gives (figures 6 4167 673 4173))
     ∷ values (inGroups (1 ∷ 1 ∷ 2 ∷ 2 ∷ 0 ∷ []) (openDay 5 5 1 (oneWay 5))) (replicate 5 1) (gives (figures 0 0 380 0))
-    -- order 8, fewest revisits, then fewest split moves. P1's 16 boxes: the weights 16 and 1, and not 15, nor 2 for a split move; planned, the
-    -- plan of P1 has the fewest. With train 4 bound to slot 2 the fewest revisits are one less than in P6, for three split moves more; with
+    -- order 8, fewest revisits, then fewest split moves. P1's 16 boxes: the weights 16 and 1, and not 15, nor 2 for a split move; with a group
+    -- the same, and twelve trains without boxes and with all that there can be. Planned, the plan of P1 has the fewest. With train 4 bound to slot 2 the fewest revisits are one less than in P6, for three split moves more; with
     -- groups, of the rows that keep them; without boxes the weights are 0 and 1
-    ∷ summed (paperDay 16 1 1) true
-    ∷ summed (paperDay 15 1 1) false
-    ∷ summed (paperDay 16 2 1) false
+    ∷ hasSumWeights (paperDay 16 1 1) true
+    ∷ hasSumWeights (paperDay 15 1 1) false
+    ∷ hasSumWeights (paperDay 16 2 1) false
+    ∷ hasSumWeights (inGroups (1 ∷ 0 ∷ 0 ∷ 1 ∷ []) (paperDay 16 1 1)) true
+    ∷ hasSumWeights (dayOf 12 12 8 0 1 (replicate 12 1) (replicate 12 8) []) true
+    ∷ hasSumWeights (dayOf 12 12 8 33660 1 (replicate 12 1) (replicate 12 8) fullest) true
     ∷ plans (paperDay 16 1 1) 16 32 4 (gives (figures 1 7 9 23))
     ∷ best (paperDay 16 1 1) (2 ∷ 1 ∷ 2 ∷ 1 ∷ []) (figures 1 7 9 23)
     ∷ fewest (paperDay 16 1 1) (2 ∷ 1 ∷ 2 ∷ 1 ∷ []) 1 7
@@ -117,12 +120,12 @@ table =
     ∷ fewest (paperDay 16 1 2) (1 ∷ 1 ∷ 2 ∷ 2 ∷ []) 1 10
     ∷ best (inGroups (1 ∷ 0 ∷ 0 ∷ 1 ∷ []) (paperDay 16 1 1)) (1 ∷ 2 ∷ 2 ∷ 1 ∷ []) (figures 1 15 1 31)
     ∷ fewest (inGroups (1 ∷ 0 ∷ 0 ∷ 1 ∷ []) (paperDay 16 1 1)) (1 ∷ 2 ∷ 2 ∷ 1 ∷ []) 1 15
-    ∷ summed (dayOf 2 1 2 0 1 (replicate 2 1) (replicate 2 2) []) true
+    ∷ hasSumWeights (dayOf 2 1 2 0 1 (replicate 2 1) (replicate 2 2) []) true
     ∷ best (dayOf 2 1 2 0 1 (replicate 2 1) (replicate 2 2) []) (2 ∷ 1 ∷ []) (figures 0 0 0 0)
     ∷ fewest (dayOf 2 1 2 0 1 (replicate 2 1) (replicate 2 2) []) (2 ∷ 1 ∷ []) 0 0
     -- how great the weight has to be, on a day of three boxes with two allowed rows: from 3 on the row without a revisit is the cheaper one; at
     -- 2 both cost 3, and order 5 puts it first; at 1 the plan is the other one, though it has a revisit
-    ∷ summed (threeBoxes 3) true
+    ∷ hasSumWeights (threeBoxes 3) true
     ∷ best (threeBoxes 3) (2 ∷ 2 ∷ 1 ∷ 1 ∷ []) (figures 0 3 0 3)
     ∷ best (threeBoxes 2) (2 ∷ 2 ∷ 1 ∷ 1 ∷ []) (figures 0 3 0 3)
     ∷ later (threeBoxes 2) (2 ∷ 2 ∷ 1 ∷ 1 ∷ []) (2 ∷ 1 ∷ 2 ∷ 1 ∷ []) 3

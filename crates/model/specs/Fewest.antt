@@ -22,7 +22,7 @@ use Rattle.fold.specs.Fold.{bit, sum, count, some-of}
 use Rattle.fold.specs.Sums.{sum-ext, sum-le, term-le-sum}
 use Rattle.fold.specs.Counting.{le-or-lt}
 use Rattle.model.specs.Model.{Yard, received, slotOf, supplies, lateSupplier, revisiting, revisits, splitBoxes, splitsTo, splits, allBoxes, boxesOf, weighed, outcome, cost, fitting, allowed, byKey, slotTotal, bySets, precedes, Best}
-use Rattle.model.specs.Moves.{splits-boxes}
+use Rattle.model.specs.Moves.{splits-boxes, all-moved}
 use Rattle.model.specs.Order.{key-less}
 use Rattle.model.specs.Foremost.{CheapestOf, Cheapest}
 use Rattle.model.specs.Program.{suggestedWeight}
@@ -33,13 +33,13 @@ use Rattle.model.specs.Program.{suggestedWeight}
 abbrev pub SumWeights : Yard → Type 0
 SumWeights y = (y .revisit ≡ boxesOf y) × (y .split ≡ 1)
 
--- a split move weighs something, and a revisit as much as all boxes moved twice
+-- a split move weighs something, and a revisit at least as much as split moves of all boxes
 abbrev pub Outweighs : Yard → Type 0
 Outweighs y = (1 ≤ y .split) × (y .split * boxesOf y ≤ y .revisit)
 
 -- of the rows of some kind: the fewest revisits of all, and the fewest split moves of those that share this fewest
 pub record FewestOf (y : Yard) (Kind : List ℕ → Type 0) (row : List ℕ) : Type 0 where
-  pub isOne : Kind row
+  pub isOfKind : Kind row
   pub revisits : (other : List ℕ) → Kind other → outcome y row .revisits ≤ outcome y other .revisits
   pub splits : (other : List ℕ) → Kind other → outcome y other .revisits ≡ outcome y row .revisits → outcome y row .splits ≤ outcome y other .splits
 
@@ -66,7 +66,7 @@ reweighed y = record {
 -- ---- the weights
 
 -- the sum of all boxes is the source's own, over the suppliers of each train
-suggested-boxes : (y : Yard) → suggestedWeight y ≡ boxesOf y
+pub suggested-boxes : (y : Yard) → suggestedWeight y ≡ boxesOf y
 unfolding suggestedWeight allBoxes
 suggested-boxes y =
     sum-ext (y .trains) (λ i. sum (y .trains) λ j. cond (supplies (received y) i j) (received y i j) 0) (λ i. sum (y .trains) (received y i))
@@ -80,12 +80,19 @@ suggested-boxes y =
 pub suggested-weights : (y : Yard) → SumWeights y ↔ ((y .revisit ≡ suggestedWeight y) × (y .split ≡ 1))
 suggested-weights y = (λ w. (w .0 ∙ sym (suggested-boxes y), w .1), λ w. (w .0 ∙ suggested-boxes y, w .1))
 
--- a revisit weighs enough from there on, where a split move weighs 1
-pub from-sum-outweighs : (y : Yard) → boxesOf y ≤ y .revisit → y .split ≡ 1 → Outweighs y
-from-sum-outweighs y h e = (omega arith, rw e (omega arith))
+-- and the boxes are those that any row moves
+pub moved-weights : (y : Yard) (row : List ℕ) → SumWeights y ↔ ((y .revisit ≡ outcome y row .direct + outcome y row .splits) × (y .split ≡ 1))
+moved-weights y row = (λ w. (w .0 ∙ sym (all-moved y row), w .1), λ w. (w .0 ∙ all-moved y row, w .1))
+
+-- what is asked of weights: a revisit weighs enough from the sum on where a split move weighs 1, from a multiple of it on where that weighs more
+pub multiple-outweighs : (y : Yard) → 1 ≤ y .split → y .split * boxesOf y ≤ y .revisit → Outweighs y
+multiple-outweighs y some-weight enough = (some-weight, enough)
+
+pub greater-outweighs : (y : Yard) → boxesOf y ≤ y .revisit → y .split ≡ 1 → Outweighs y
+greater-outweighs y h e = multiple-outweighs y (omega arith) (rw e (omega arith))
 
 pub sum-outweighs : (y : Yard) → SumWeights y → Outweighs y
-sum-outweighs y w = from-sum-outweighs y (omega (arith, w .0)) (w .1)
+sum-outweighs y w = greater-outweighs y (omega (arith, w .0)) (w .1)
 
 -- ---- a revisit has a split move
 
@@ -160,15 +167,15 @@ module _ (y : Yard) where
 
     module _ (Kind : List ℕ → Type 0) (row : List ℕ) where
       pub cheapest-fewest : CheapestOf y Kind row → FewestOf y Kind row
-      cheapest-fewest (isOne, least) = record {
-        isOne = isOne;
+      cheapest-fewest (isOfKind, least) = record {
+        isOfKind = isOfKind;
         revisits = λ other k. ⊎-elim (λ l. omega arith) (λ p. omega (arith, p .0)) (lexicographic row other .0 (least other k));
         splits = λ other k same. ⊎-elim (λ l. absurd (omega arith)) (λ p. p .1) (lexicographic row other .0 (least other k));
       }
 
       pub fewest-cheapest : FewestOf y Kind row → CheapestOf y Kind row
       fewest-cheapest f = (
-        f .isOne,
+        f .isOfKind,
         λ other k.
             lexicographic row other .1
             (⊎-elim (λ (l : revisitsOf other ≤ revisitsOf row). let same = le-antisymm (f .revisits other k) l in inr (same, f .splits other k (sym same))) (λ l. inl l)
@@ -188,7 +195,7 @@ module _ (y : Yard) where
   pub best-fewest-below : 1 ≤ y .split → y .split * boxesOf y ≤ y .revisit + y .split → (row : List ℕ) → Best y row → Fewest y row
   unfolding precedes
   best-fewest-below some-weight enough row b = record {
-    isOne = b .isAllowed;
+    isOfKind = b .isAllowed;
     revisits = λ other k.
         ⊎-elim (λ l. l)
         (λ (l : revisitsOf other < revisitsOf row).
@@ -198,16 +205,40 @@ module _ (y : Yard) where
     splits = λ other k same. no-more-splits some-weight row other (sym same) (b .least other k);
   }
 
--- ---- any day, given order 8's weights: its allowed rows are what they were, and the best plan has the fewest revisits of them, then the
--- fewest split moves
+-- ---- any day, given order 8's weights: nothing else of it changes, its allowed rows are what they were, and the cheapest of them are those
+-- with the fewest revisits and, among these, the fewest split moves, whatever the weights of before
 
-module _ (y : Yard) (row : List ℕ) where
-  pub reweighed-allowed : allowed (reweighed y) row ≡ allowed y row
-  unfolding allowed fitting
-  reweighed-allowed = refl
+module _ (y : Yard) where
+  pub reweighed-weights : SumWeights (reweighed y)
+  reweighed-weights = (refl, refl)
 
-  pub reweighed-fewest : Best (reweighed y) row → Fewest y row
-  unfolding allowed fitting
-  reweighed-fewest b =
-      let f = best-fewest (reweighed y) (sum-outweighs (reweighed y) (refl, refl)) row b in
-      record { isOne = f .isOne; revisits = λ other k. f .revisits other k; splits = λ other k same. f .splits other k same }
+  pub reweighed-same : SumWeights y → reweighed y ≡ y
+  reweighed-same w = λ i. record {
+    trains = y .trains;
+    tracks = y .tracks;
+    slots = y .slots;
+    revisit = sym (w .0) i;
+    split = sym (w .1) i;
+    numbers = y .numbers;
+    first = y .first;
+    last = y .last;
+    groups = y .groups;
+    width = y .width;
+    boxes = y .boxes;
+  }
+
+  module _ (row : List ℕ) where
+    pub reweighed-allowed : allowed (reweighed y) row ≡ allowed y row
+    unfolding allowed fitting
+    reweighed-allowed = refl
+
+    pub reweighed-exactly : Fewest y row ↔ Cheapest (reweighed y) row
+    unfolding allowed fitting
+    reweighed-exactly =
+        let e = fewest-exactly (reweighed y) (sum-outweighs (reweighed y) reweighed-weights) row in (
+          λ f. e .0 (record { isOfKind = f .isOfKind; revisits = f .revisits; splits = f .splits }),
+          λ c. let f = e .1 c in record { isOfKind = f .isOfKind; revisits = f .revisits; splits = f .splits },
+        )
+
+    pub reweighed-fewest : Best (reweighed y) row → Fewest y row
+    reweighed-fewest b = reweighed-exactly .1 (b .isAllowed, b .least)
