@@ -86,7 +86,7 @@ moved-weights y row = (λ w. (w .0 ∙ sym (all-moved y row), w .1), λ w. (w .0
 
 -- what is asked of weights: a revisit weighs enough from the sum on where a split move weighs 1, from a multiple of it on where that weighs more
 pub multiple-outweighs : (y : Yard) → 1 ≤ y .split → y .split * boxesOf y ≤ y .revisit → Outweighs y
-multiple-outweighs y some-weight enough = (some-weight, enough)
+multiple-outweighs y some-weight enough = (some-weight, omega arith)
 
 pub greater-outweighs : (y : Yard) → boxesOf y ≤ y .revisit → y .split ≡ 1 → Outweighs y
 greater-outweighs y h e = multiple-outweighs y (omega arith) (rw e (omega arith))
