@@ -241,6 +241,38 @@ fn note(seen: &mut Seen, case: &Case, slots: &[u8], outcome: &Outcome) {
 // The comparison
 // ---------------------------------------------------------------------------
 
+/// The memory lent to the call.
+pub struct Memory {
+    pub text: Lent<u8>,
+    pub row: Lent<u8>,
+    pub numbers: Lent<u64>,
+}
+
+impl Memory {
+    pub fn lent(text: &[u8], slots: &[u8], numbers: usize, marks: Marks) -> Memory {
+        Memory {
+            text: lent_text(text, marks),
+            row: Lent::holding("row", slots, marks),
+            numbers: Lent::marked("numbers", numbers, marks),
+        }
+    }
+
+    /// Makes the call and returns what it returns.
+    pub fn value(&mut self) -> u64 {
+        let Memory { text, row, numbers } = self;
+        unsafe {
+            sys::yard_value(
+                text.pointer(),
+                text.length(),
+                row.pointer(),
+                row.length(),
+                numbers.pointer(),
+                numbers.length(),
+            )
+        }
+    }
+}
+
 fn compare_one(
     case: &Case,
     slots: &[u8],
@@ -249,19 +281,9 @@ fn compare_one(
     outcome: Outcome,
 ) -> Result<(), String> {
     let outcome = unless_too_few(lent, outcome);
-    let mut text = lent_text(case.text, marks);
-    let mut row = Lent::holding("row", slots, marks);
-    let mut numbers = Lent::marked("numbers", lent, marks);
-    let got = unsafe {
-        sys::yard_value(
-            text.pointer(),
-            text.length(),
-            row.pointer(),
-            row.length(),
-            numbers.pointer(),
-            numbers.length(),
-        )
-    };
+    let mut memory = Memory::lent(case.text, slots, lent, marks);
+    let got = memory.value();
+    let Memory { text, row, numbers } = &memory;
     returned(got, outcome.refusal)?;
     numbers.holds(&outcome.written(lent))?;
     if got == 0 {

@@ -4,6 +4,7 @@
 //! keep served trains and put all others into open slots.
 
 use crate::account::{row, Account, Slots};
+use crate::call_value;
 use crate::day_file::read_day;
 use crate::draw::Random;
 use crate::draw_fewest::draw_bought;
@@ -12,14 +13,13 @@ use crate::draw_states::by_hand;
 use crate::fewest::{all_counts, hold, Counts, Told};
 use crate::fewest_moving_seen::{note_state, refused, sum_of};
 use crate::groups::Tests;
-use crate::lent::{lent_text, Lent, Marks};
+use crate::lent::Marks;
 use crate::model::{MOST_WEIGHT, NUMBERS};
 use crate::moving_call::{Asked, Call, State, EXACT};
 use crate::moving_memory::{by_library, Memory, Perform};
 use crate::moving_rules::change;
 use crate::moving_walk::Running;
 use crate::seen::Seen;
-use crate::sys;
 use crate::valuing::assignment;
 
 pub const LISTS: usize = 1500;
@@ -150,20 +150,9 @@ impl<'a> List<'a> {
 /// The counts that yard_value tells of a state's plan: no call of a moving day tells
 /// them.
 fn valued(state: &State) -> Counts {
-    let mut text = lent_text(&state.text, Marks::High);
-    let mut row = Lent::holding("row", &state.row, Marks::High);
-    let mut numbers = Lent::marked("numbers", NUMBERS, Marks::High);
-    unsafe {
-        sys::yard_value(
-            text.pointer(),
-            text.length(),
-            row.pointer(),
-            row.length(),
-            numbers.pointer(),
-            numbers.length(),
-        );
-    }
-    let numbers = numbers.words();
+    let mut memory = call_value::Memory::lent(&state.text, &state.row, NUMBERS, Marks::High);
+    memory.value();
+    let numbers = memory.numbers.words();
     Counts { revisits: numbers[0] as usize, splits: numbers[1] as usize }
 }
 
