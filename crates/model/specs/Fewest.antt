@@ -212,20 +212,10 @@ module _ (y : Yard) where
   pub reweighed-weights : SumWeights (reweighed y)
   reweighed-weights = (refl, refl)
 
-  pub reweighed-same : SumWeights y → reweighed y ≡ y
-  reweighed-same w = λ i. record {
-    trains = y .trains;
-    tracks = y .tracks;
-    slots = y .slots;
-    revisit = sym (w .0) i;
-    split = sym (w .1) i;
-    numbers = y .numbers;
-    first = y .first;
-    last = y .last;
-    groups = y .groups;
-    width = y .width;
-    boxes = y .boxes;
-  }
+  pub reweighed-rest : (reweighed y .trains ≡ y .trains) × (reweighed y .tracks ≡ y .tracks) × (reweighed y .slots ≡ y .slots)
+      × (reweighed y .numbers ≡ y .numbers) × (reweighed y .first ≡ y .first) × (reweighed y .last ≡ y .last) × (reweighed y .groups ≡ y .groups)
+      × (reweighed y .width ≡ y .width) × (reweighed y .boxes ≡ y .boxes)
+  reweighed-rest = (refl, refl, refl, refl, refl, refl, refl, refl, refl)
 
   module _ (row : List ℕ) where
     pub reweighed-allowed : allowed (reweighed y) row ≡ allowed y row
