@@ -9,7 +9,7 @@ use lib.ListN.{getD}
 use Rattle.day.specs.Answer.{number, carried}
 use Rattle.refusals.specs.declared.Numbered.{Numbered}
 use Rattle.day.specs.declared.Refusal.{Refusal}
-use Rattle.day.specs.declared.Refusal.the-variants.{NamesLine, RowForm, OutOfLimits, NumberOrder, WindowOrder, UnknownTrain, PairOrder, Unsound, Overbooked, TooShort, RowLength, OutsideWindow, SlotOverfull, WithoutSlot, GroupRow, NoAllowedRow, GroupParted, TrainUnavailable, TrainNotAddable, NoOpenSlot}
+use Rattle.day.specs.declared.Refusal.the-variants.{NamesLine, RowForm, OutOfLimits, NumberOrder, WindowOrder, UnknownTrain, PairOrder, Unsound, Overbooked, TooShort, RowLength, OutsideWindow, SlotOverfull, WithoutSlot, GroupRow, NoAllowedRow, GroupParted, TrainUnavailable, TrainNotAddable, NoOpenSlot, WidthOutOfRange}
 
 pub record Tells (k : ℕ) (carries : List ℕ) (r : Numbered) : Type 0 where
   pub number : r .number ≡ k
@@ -42,6 +42,7 @@ carried-values (GroupParted group) = refl
 carried-values TrainUnavailable = refl
 carried-values TrainNotAddable = refl
 carried-values NoOpenSlot = refl
+carried-values WidthOutOfRange = refl
 
 -- so none carries a fourth
 pub no-fourth : (r : Refusal) → getD (carried r) 3 0 ≡ 0

@@ -67,5 +67,6 @@ pub fn in_numbers(refusal: Refusal) -> Numbered
         Refusal::TrainUnavailable => carrying(18, 0),
         Refusal::TrainNotAddable => carrying(19, 0),
         Refusal::NoOpenSlot => carrying(20, 0),
+        Refusal::WidthOutOfRange => carrying(21, 0),
     }
 }

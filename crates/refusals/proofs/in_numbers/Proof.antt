@@ -130,6 +130,12 @@ enum-told-7 c = search needs
 carrying-requires-19 : tie.Need-carrying-requires-19
 carrying-requires-19 c κs = search needs
 
+enum-told-8 : tie.Need-enum-told-8
+enum-told-8 c = search needs
+
+carrying-requires-20 : tie.Need-carrying-requires-20
+carrying-requires-20 c κs = search needs
+
 returns : tie.Need-returns
 returns c = rw (c .before .before .refusal .given .1) (c .carrying .ensures)
 
@@ -190,6 +196,9 @@ returns-19 c = rw (c .before .enum-told6 .given .1) (c .carrying18 .ensures)
 returns-20 : tie.Need-returns-20
 returns-20 c = rw (c .before .enum-told7 .given .1) (c .carrying19 .ensures)
 
+returns-21 : tie.Need-returns-21
+returns-21 c = rw (c .before .enum-told8 .given .1) (c .carrying20 .ensures)
+
 pub in-numbers-spec : {M : Type 1} → statement M
 in-numbers-spec =
     tie.close
@@ -236,6 +245,8 @@ in-numbers-spec =
     carrying-requires-18
     enum-told-7
     carrying-requires-19
+    enum-told-8
+    carrying-requires-20
     returns
     returns-2
     returns-3
@@ -255,4 +266,5 @@ in-numbers-spec =
     returns-17
     returns-18
     returns-19
-    returns-20)
+    returns-20
+    returns-21)
