@@ -18,11 +18,11 @@ use Rattle.feasibility.specs.Bound.{isBound, places, over-exceeds}
 
 module _ (y : Yard) (row : List ℕ) (w : Fitting y row) where
   -- train i stands in one of the slots a..b
-  abbrev within : ℕ → ℕ → ℕ → Bool
+  abbrev pub within : ℕ → ℕ → ℕ → Bool
   within a b i = leb a (slotOf row i) && leb (slotOf row i) b
 
   -- the d slots after slot a hold at most G trains each
-  slots-hold : (a d : ℕ) → a + d ≤ y .slots → count (y .trains) (within (suc a) (a + d)) ≤ y .tracks * d
+  pub slots-hold : (a d : ℕ) → a + d ≤ y .slots → count (y .trains) (within (suc a) (a + d)) ≤ y .tracks * d
   unfolding load
   slots-hold a zero h = omega (
     arith,

@@ -1,3 +1,5 @@
 pub mod Mask
 pub mod Subset
 pub mod Rest
+pub mod FewOnes
+pub mod Members

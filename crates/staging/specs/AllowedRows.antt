@@ -44,7 +44,7 @@ module _ (y : Yard) where
     stage-ones t = ones-mask (y .trains) λ i. eqb (slotOf row i) t
 
     -- a slot's set lies in the windows exactly where each of its trains does
-    within-windows : (t : ℕ) → ((i : ℕ) → i < y .trains → slotOf row i ≡ t → InWindow y t i)
+    pub within-windows : (t : ℕ) → ((i : ℕ) → i < y .trains → slotOf row i ≡ t → InWindow y t i)
         → Sub (stageSet (y .trains) row t) (openIn (y .trains) (y .first) (y .last) t)
     unfolding openIn inTime
     within-windows t h =

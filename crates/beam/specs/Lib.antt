@@ -1,0 +1,16 @@
+pub mod LowerFigure
+pub mod Beam
+pub mod Listing
+pub mod Discards
+pub mod Paths
+pub mod Completing
+pub mod RowPlans
+pub mod Successors
+pub mod Result
+pub mod NothingCut
+pub mod Loop
+pub mod Shortcuts
+pub mod SlotCosts
+pub mod Words
+pub mod HeldWords
+pub mod Gathering
