@@ -28,10 +28,10 @@ use Rattle.feasibility.specs.Placing.{partial-place}
 use Rattle.feasibility.specs.RowExists.{Grown, fill, all-placed}
 use Rattle.optimum.specs.Rows.{stageSet}
 use Rattle.staging.specs.Tables.{openIn}
-use Rattle.staging.specs.AllowedRows.{stage-ones}
+use Rattle.staging.specs.AllowedRows.{stage-ones, within-windows}
 use Rattle.beam.specs.Beam.{Plan, rest, slotIn, rowOf, discarded, fitsSlot, mayServe}
 use Rattle.beam.specs.Discards.{ending, Fits, kept-fits, fits-kept}
-use Rattle.beam.specs.Paths.{Path, serves, rest-lt, path-kept, path-spacious, slot-le, rest-slot, row-slot, row-load, row-window}
+use Rattle.beam.specs.Paths.{Path, is-fits, serves, rest-lt, path-kept, path-spacious, slot-le, rest-slot, row-slot, row-load, row-window}
 
 module _ (y : Yard) (p : Plan) (h : Path y p) where
   fits : Fits y (length p) (rest y p)
@@ -124,17 +124,14 @@ module _ (y : Yard) (windows : Windows y) (p : Plan) (h : Path y p) (more : leng
       (sub-mask n (λ i. eqb (slotOf r i) t) (has (rest y p)) (λ i l e. remains y p h i l (had-none i l (eqb→eq (slotOf r i) t e))))
 
   served-fit : T (fitsSlot y t s)
-  unfolding n t r s openIn inTime fitsSlot
+  unfolding n t r s
   served-fit =
-      both (subset s (openIn n (y .first) (y .last) t)) (leb (ones s) (y .tracks))
-      (of-true
-      (eq-eqb _ _
-      (sub-mask n (λ i. eqb (slotOf r i) t) (λ i. leb (firstSlot y i) t && leb t (lastSlot y i))
+      is-fits y t s
+      (within-windows y r t
       (λ i l e.
-      let q = eqb→eq (slotOf r i) t e in
       let (a, b, c) = filled .1 .placed i l (omega arith) in
-      le-both (firstSlot y i) t t (lastSlot y i) (omega arith, omega arith)))))
-      (le→leb (ones s) (y .tracks) (omega (arith, stage-ones y r t, filled .1 .room (length p))))
+      (omega arith, omega arith)))
+      (omega (arith, stage-ones y r t, filled .1 .room (length p)))
 
   served-keeps : T (discarded y t (rest y p - s)) → ⊥
   unfolding n t r s

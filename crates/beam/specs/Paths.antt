@@ -31,6 +31,20 @@ abbrev pub Path : Yard → Plan → Type 0
 Path y [] = T (discarded y 0 (full (y .trains))) → ⊥
 Path y (s ∷ p) = T (mayServe y (suc (length p)) (rest y p) s) × Path y p
 
+-- ---- a set that fits into a slot
+
+module _ (y : Yard) (t s : ℕ) where
+  pub fits-is : T (fitsSlot y t s) → Sub s (openIn (y .trains) (y .first) (y .last) t) × (ones s ≤ y .tracks)
+  unfolding fitsSlot
+  fits-is h =
+      let (inside, few) = both-of (subset s (openIn (y .trains) (y .first) (y .last) t)) (leb (ones s) (y .tracks)) h in
+      (eqb→eq _ _ inside, leb→le (ones s) (y .tracks) few)
+
+  pub is-fits : Sub s (openIn (y .trains) (y .first) (y .last) t) → ones s ≤ y .tracks → T (fitsSlot y t s)
+  unfolding fitsSlot
+  is-fits inside few =
+      both (subset s (openIn (y .trains) (y .first) (y .last) t)) (leb (ones s) (y .tracks)) (of-true (eq-eqb _ _ inside)) (le→leb (ones s) (y .tracks) few)
+
 -- ---- a set that may be served
 
 module _ (y : Yard) (t r s : ℕ) where
@@ -131,10 +145,8 @@ module _ (y : Yard) where
 
   -- each fits into its slot
   pub set-fits : (p : Plan) → Path y p → (j : ℕ) → T (fitsSlot y (suc j) (setIn p j))
-  unfolding setIn fitsSlot
-  set-fits [] h j =
-      let o = openIn (y .trains) (y .first) (y .last) (suc j) in
-      both (subset 0 o) (leb (ones 0) (y .tracks)) (of-true (eq-eqb _ _ (sub-zero o))) (le→leb (ones 0) (y .tracks) (omega (arith, ones-le 0 0 (omega arith))))
+  unfolding setIn
+  set-fits [] h j = is-fits y (suc j) 0 (sub-zero (openIn (y .trains) (y .first) (y .last) (suc j))) (omega (arith, ones-le 0 0 (omega arith)))
   set-fits (s ∷ p) h j = at (eqb j (length p)) refl (set-fits p (h .1) j)
     where
       at : (b : Bool) → eqb j (length p) ≡ b → T (fitsSlot y (suc j) (setIn p j)) → T (fitsSlot y (suc j) (cond b s (setIn p j)))
@@ -156,15 +168,10 @@ module _ (y : Yard) where
 
     -- no slot has more trains than tracks
     pub row-load : (j : ℕ) → load (y .trains) (rowOf y p) (suc j) ≤ y .tracks
-    unfolding fitsSlot
-    row-load j =
-        let s = setIn p j in
-        let (within, few) = both-of (subset s (openIn (y .trains) (y .first) (y .last) (suc j))) (leb (ones s) (y .tracks)) (set-fits p h j) in
-        omega (arith, stage-ones y (rowOf y p) (suc j), ap ones (row-set j), leb→le (ones s) (y .tracks) few)
+    row-load j = omega (arith, stage-ones y (rowOf y p) (suc j), ap ones (row-set j), fits-is y (suc j) (setIn p j) (set-fits p h j) .1)
 
     -- a slot lies in its train's window
     pub row-window : (i : ℕ) → i < y .trains → 1 ≤ slotIn p i → InWindow y (slotIn p i) i
-    unfolding fitsSlot
     row-window i l from = at (slotIn p i) refl from
       where
         at : (t : ℕ) → slotIn p i ≡ t → 1 ≤ t → InWindow y t i
@@ -173,7 +180,6 @@ module _ (y : Yard) where
             let n = y .trains in
             let s = setIn p j in
             let o = openIn n (y .first) (y .last) (suc j) in
-            let (within, few) = both-of (subset s o) (leb (ones s) (y .tracks)) (set-fits p h j) in
             let in-set : T (has s i) = subst T (set-slot p h i j l) (of-true (eq-eqb (slotIn p i) (suc j) e)) in
             both-le (firstSlot y i) (suc j) (suc j) (lastSlot y i)
-            (subst T (has-open y (suc j) i l) (sub-has n s o (eqb→eq _ _ within) (open-lt y (suc j)) i l in-set))
+            (subst T (has-open y (suc j) i l) (sub-has n s o (fits-is y (suc j) s (set-fits p h j) .0) (open-lt y (suc j)) i l in-set))

@@ -9,15 +9,14 @@ use Prim.Native.Nat.{ℕ, zero, suc, _+_, _-_, _*_, _≤_, _<_}
 use native.Mathlib.Nat.{mul-one, mul-zero}
 use native.Mathlib.Omega.{arith}
 use lib.Count.{ones}
-use lib.Dec.{T, ltb, leb, eqb, leb→le, le→leb}
+use lib.Dec.{T, ltb, leb, eqb, leb→le}
 use lib.ListN.{length}
 use borrow.Author.Tests.{eq-eqb, ne-eqb, eqb-true, eqb-false}
-use Rattle.fold.specs.Test.{of-true, both, both-of}
+use Rattle.fold.specs.Test.{both-of}
 use Rattle.fold.specs.Fold.{bit, sum, count, each}
 use Rattle.fold.specs.Sums.{sum-ext, sum-swap, sum-only, sum-times, some-ext, each-ext}
 use Rattle.fold.specs.Counting.{count-le}
 use Rattle.sets.specs.Mask.{has, has-mask, ones-mask}
-use Rattle.sets.specs.Subset.{subset}
 use Rattle.sets.specs.Rest.{full}
 use Rattle.model.specs.Model.{Yard, received, lastSlot, slotOf, revisits, cost, fitting, slotMask, lower, byKey, slotTotal, bySets, precedes}
 use Rattle.model.specs.Rows.{Fitting, fitting-is, le-both}
@@ -25,12 +24,12 @@ use Rattle.model.specs.BestOf.{better}
 use Rattle.feasibility.specs.Bound.{Spacious}
 use Rattle.feasibility.specs.NoRow.{within, slots-hold, none-fits}
 use Rattle.optimum.specs.Rows.{stageSet, remaining, remaining-next, remaining-all, stage-sub, worth}
-use Rattle.staging.specs.Tables.{openIn, lateTrains, slotCost}
+use Rattle.staging.specs.Tables.{lateTrains, slotCost}
 use Rattle.staging.specs.AllowedRows.{InWindow, stage-ones, within-windows}
 use Rattle.staging.specs.CostBySlot.{revisits-by-slot, worth-cost}
 use Rattle.beam.specs.Beam.{Plan, rest, costSoFar, revisitsSoFar, slotsSoFar, setIn, rowOf, earlier, comesBefore, discarded, fitsSlot, mayServe}
 use Rattle.beam.specs.Discards.{ending, Fits, fits-kept}
-use Rattle.beam.specs.Paths.{Path, serves, row-set}
+use Rattle.beam.specs.Paths.{Path, is-fits, serves, row-set}
 
 -- ---- definitions
 
@@ -108,13 +107,9 @@ module _ (y : Yard) (row : List ℕ) (ok : T (fitting y row)) where
 
   -- the set of each slot fits into it
   slot-fits : (j : ℕ) → j < y .slots → T (fitsSlot y (suc j) (stageSet (y .trains) row (suc j)))
-  unfolding fitsSlot
   slot-fits j l =
-      let s = stageSet (y .trains) row (suc j) in
-      let o = openIn (y .trains) (y .first) (y .last) (suc j) in
-      both (subset s o) (leb (ones s) (y .tracks))
-      (of-true (eq-eqb _ _ (within-windows y row (suc j) (λ i k e. subst (λ x. InWindow y x i) e (is .windowed i k)))))
-      (le→leb (ones s) (y .tracks) (omega (arith, stage-ones y row (suc j), is .room j l)))
+      is-fits y (suc j) (stageSet (y .trains) row (suc j)) (within-windows y row (suc j) (λ i k e. subst (λ x. InWindow y x i) e (is .windowed i k)))
+      (omega (arith, stage-ones y row (suc j), is .room j l))
 
   pub plan-path : (t : ℕ) → t ≤ y .slots → Path y (planOf y row t)
   unfolding planOf

@@ -90,8 +90,8 @@ pub fn fill_late(late: &mut [u32], count: &[u8], revisit: u32, size: usize)
 // ---- the trains that may be served in each slot
 
 // The trains whose windows hold slot t.
-fn open_in(first: &[u8], last: &[u8], n: usize, t: u8) -> usize
-    requires { ⌜ (n ≤ 12) × (n ≤ length (now first)) × (n ≤ length (now last)) ⌝ }
+pub fn open_in(first: &[u8], last: &[u8], n: usize, t: u8) -> usize
+    requires { ⌜ (n ≤ 64) × (n ≤ length (now first)) × (n ≤ length (now last)) ⌝ }
     ensures { λ r. ⌜ r ≡ openIn n (now (first .entry)) (now (last .entry)) t ⌝ }
 {
     let mut mask: usize = 0;
