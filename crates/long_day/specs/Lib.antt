@@ -1,0 +1,2 @@
+pub mod LongDay
+pub mod LongLaws
