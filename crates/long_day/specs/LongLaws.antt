@@ -8,10 +8,10 @@ use mathlib.Core.Logic.{⊎-elim}
 use Prim.Native.Nat.{ℕ, _≤_, _<_}
 use native.Mathlib.Omega.{arith}
 use lib.Dec.{T}
-use lib.ListN.{length, replicate, length-replicate, getD-replicate}
+use lib.ListN.{replicate, length-replicate, getD-replicate}
 use lib.Seq.{ext-getD}
 use Rattle.fold.specs.Counting.{le-or-lt}
-use Rattle.model.specs.Model.{Yard, groupOf, weighed, cost, fitting, allowed}
+use Rattle.model.specs.Model.{Yard, weighed, cost, fitting, allowed}
 use Rattle.model.specs.Groups.{NoGroups, without-groups}
 use Rattle.day.specs.Sound.{sound}
 use Rattle.day.specs.SoundLaws.{sound-is}

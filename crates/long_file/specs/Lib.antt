@@ -1,0 +1,3 @@
+pub mod LongFile
+pub mod Full
+pub mod Longest
