@@ -1,0 +1,2 @@
+pub mod LongPlanning
+pub mod Laws
