@@ -1,2 +1,3 @@
 pub mod LongPlanning
 pub mod Laws
+pub mod Promised

@@ -1,0 +1,220 @@
+-- Order 9's sentences on planning long days, from the call's contract and the model alone. On a sound long day, at a width of 1 to 64 and lent
+-- a row of at least n bytes:
+--   long-plan-or-nine  a plan or 9 is returned, never another refusal;
+--   long-exactly       a plan is returned exactly when an allowed row exists;
+--   long-nine-exactly  9 is returned exactly when no row is allowed;
+--   long-nine          it carries the overbooked interval that 01 names and the number of trains bound inside;
+--   long-plan          the plan is an allowed row, its four numbers are the model's, and the bytes beyond it are those lent;
+--   long-lower         no allowed row costs less than the lower figure, the plan among them;
+--   long-best          where the number of full slots is 0 the cost is least, and the plan is the best of all allowed rows in order 5's order.
+-- On any day, at any width and in any row:
+--   long-unsound, long-width, long-short   when 8, 21 and 10 are returned, in this order;
+--   long-kept          a refusal leaves every byte of the row.
+-- Assumes nothing.
+use mathlib.Core.Path.{_≡_, refl, sym, ap, _∙_, subst}
+use mathlib.Core.Bool.{Bool, true, false, cond, _&&_}
+use mathlib.Core.List.{List, [], _∷_, _++_}
+use mathlib.Core.Logic.{_↔_, _⊎_, inl, inr, ⊎-elim}
+use mathlib.Core.Option.{Option, none, some}
+use Prim.Native.Nat.{ℕ, _≤_, _<_}
+use native.Mathlib.Omega.{arith}
+use lib.Dec.{T, leb, leb→le, le→leb}
+use lib.ListN.{length, take, drop}
+use Rattle.fold.specs.Test.{is-true, is-false, of-true, both, both-of}
+use Rattle.fold.specs.Listed.{take-front, drop-front}
+use Rattle.model.specs.Model.{Yard, outcome, cost, boundInside, allowed, fitting, Best, SomeRow, NoRow, FirstOverbooked}
+use Rattle.model.specs.Rows.{allowed-is}
+use Rattle.model.specs.Overbooked.{Interval, firstOverbooked, SaysFirst, first-says}
+use Rattle.day.specs.Answer.{Answer, gives, refuses, code, checked, holding}
+use Rattle.day.specs.AnswerLaws.{gives-same, checked-holds, all-holding, holding-all}
+use Rattle.day.specs.Sound.{sound}
+use Rattle.day.specs.SoundLaws.{Sound, sound-is}
+use Rattle.feasibility.specs.RowOrNone.{none-fitting}
+use Rattle.planning.specs.Planning.{noRow, placed}
+use Rattle.beam.specs.Beam.{fullSlots, beamRow}
+use Rattle.beam.specs.LowerFigure.{figure-lower}
+use Rattle.beam.specs.Result.{Says, beam-says, best-fitting}
+use Rattle.beam.specs.NothingCut.{SaysBest, beam-best}
+use Rattle.long_day.specs.LongDay.{longLimits}
+use Rattle.long_day.specs.LongLaws.{long-allowed}
+use Rattle.long_planning.specs.LongPlanning.{LongOutcome, mostWidth, isWidth, longChecks, foundAnswer, longPlanned, longRowAfter}
+
+-- ---- what the search says of a sound long day, in allowed rows
+
+module _ (y : Yard) (width : ℕ) (isSound : T (sound longLimits y)) (someWidth : 1 ≤ width) where
+  is : Sound longLimits y
+  is = sound-is longLimits y isSound
+
+  -- a row that it finds is allowed, and none is found exactly where none is
+  SaysAllowed : Option (List ℕ) → Type 0
+  SaysAllowed none = NoRow y
+  SaysAllowed (some row) = T (allowed y row)
+
+  found-allowed : (o : Option (List ℕ)) → Says y o → SaysAllowed o
+  unfolding SaysAllowed
+  found-allowed none says = λ row ok. says row (subst T (long-allowed y isSound row) ok)
+  found-allowed (some row) says = subst T (sym (long-allowed y isSound row)) says
+
+  -- where nothing was cut it is the best plan
+  found-best : (row : List ℕ) → beamRow y width ≡ some row → fullSlots y width ≡ 0 → Best y row
+  found-best row e uncut = best-fitting y (long-allowed y isSound) row (subst (SaysBest y) e (beam-best y width someWidth uncut (is .windows)))
+
+  -- where it finds none an interval is overbooked
+  found-none : beamRow y width ≡ none → (w : Interval) × (firstOverbooked y ≡ some w)
+  found-none e = go (firstOverbooked y) refl
+    where
+      nowhere : (row : List ℕ) → T (fitting y row) → ⊥
+      nowhere = subst (Says y) e (beam-says y width (is .windows) someWidth)
+
+      go : (o : Option Interval) → firstOverbooked y ≡ o → (w : Interval) × (firstOverbooked y ≡ some w)
+      go none f = let (row, fits) = none-fitting y (is .windows) f in absurd (nowhere row fits)
+      go (some w) f = (w, f)
+
+-- ---- the sentences
+
+module _ (y : Yard) (width : ℕ) (row : List ℕ)
+    (isSound : T (sound longLimits y)) (someWidth : 1 ≤ width) (fewWidth : width ≤ mostWidth) (rowNamed : y .trains ≤ length row)
+    (said : Answer LongOutcome) (after : List ℕ)
+    (contract : said ≡ longPlanned longLimits y width (length row)) (contractRow : after ≡ longRowAfter longLimits y width row) where
+  wide : T (isWidth width)
+  wide = both (leb 1 width) (leb width mostWidth) (le→leb 1 width someWidth) (le→leb width mostWidth fewWidth)
+
+  says : said ≡ foundAnswer y width (beamRow y width)
+  unfolding longPlanned
+  says =
+      contract
+      ∙ checked-holds (longChecks longLimits y width (length row)) (foundAnswer y width (beamRow y width)) (isSound, (wide, (le→leb (y .trains) (length row) rowNamed, tt)))
+
+  rowIs : after ≡ placed (beamRow y width) row
+  unfolding longRowAfter
+  rowIs =
+      contractRow
+      ∙ ap (λ b. cond b (placed (beamRow y width) row) row)
+      (is-true (holding (longChecks longLimits y width (length row)))
+      (all-holding (longChecks longLimits y width (length row)) (isSound, (wide, (le→leb (y .trains) (length row) rowNamed, tt)))))
+
+  allowedOrNone : (o : Option (List ℕ)) → beamRow y width ≡ o → SaysAllowed y width isSound someWidth o
+  allowedOrNone o e = found-allowed y width isSound someWidth o (subst (Says y) e (beam-says y width (sound-is longLimits y isSound .windows) someWidth))
+
+  pub record Plan (o : LongOutcome) : Type 0 where
+    pub isAllowed : T (allowed y (take (y .trains) after))
+    pub numbers : o .row ≡ outcome y (take (y .trains) after)
+    pub full : o .full ≡ fullSlots y width
+    pub beyond : drop (y .trains) after ≡ drop (y .trains) row
+    pub bestIfNoneFull : o .full ≡ 0 → Best y (take (y .trains) after)
+    pub noneBelow : (other : List ℕ) → T (allowed y other) → o .lower ≤ cost y other
+
+  pub record Nine : Type 0 where
+    pub nowhere : NoRow y
+    pub first : ℕ
+    pub last : ℕ
+    pub named : FirstOverbooked y first last
+    pub is : said ≡ refuses 9 (first ∷ last ∷ boundInside y first last ∷ [])
+
+  from-row : (r : List ℕ) (o : LongOutcome) → beamRow y width ≡ some r → said ≡ gives o → Plan o
+  unfolding SaysAllowed
+  from-row r o e g =
+      let ok : T (allowed y r) = allowedOrNone (some r) e in
+      let long = allowed-is y r ok .long in
+      let placed-is : after ≡ r ++ drop (y .trains) row = rowIs ∙ ap (λ p. placed p row) e ∙ ap (λ k. r ++ drop k row) long in
+      let front : take (y .trains) after ≡ r = ap (take (y .trains)) placed-is ∙ take-front r (drop (y .trains) row) long in
+      let same : foundAnswer y width (some r) ≡ gives o = sym (says ∙ ap (foundAnswer y width) e) ∙ g in
+      let numbers = gives-same same in
+      record {
+        isAllowed = subst (λ p. T (allowed y p)) (sym front) ok;
+        numbers = ap (λ (n : LongOutcome). n .row) (sym numbers) ∙ ap (outcome y) (sym front);
+        full = ap (λ (n : LongOutcome). n .full) (sym numbers);
+        beyond = ap (drop (y .trains)) placed-is ∙ drop-front r (drop (y .trains) row) long;
+        bestIfNoneFull = λ z. subst (Best y) (sym front) (found-best y width isSound someWidth r e (ap (λ (n : LongOutcome). n .full) numbers ∙ z));
+        noneBelow = λ other ok.
+            subst (λ k. k ≤ cost y other) (ap (λ (n : LongOutcome). n .lower) numbers)
+            (figure-lower y (sound-is longLimits y isSound .own) other (subst T (long-allowed y isSound other) ok));
+      }
+
+  nine : beamRow y width ≡ none → Nine
+  unfolding SaysAllowed
+  nine e =
+      let (w, f) = found-none y width isSound someWidth e in
+      record {
+        nowhere = allowedOrNone none e;
+        first = w .first;
+        last = w .last;
+        named = subst (SaysFirst y) f (first-says y);
+        is = says ∙ ap (foundAnswer y width) e ∙ ap (noRow y) f;
+      }
+
+  pub long-plan-or-nine : ((o : LongOutcome) × (said ≡ gives o)) ⊎ Nine
+  long-plan-or-nine = go (beamRow y width) refl
+    where
+      go : (o : Option (List ℕ)) → beamRow y width ≡ o → ((o : LongOutcome) × (said ≡ gives o)) ⊎ Nine
+      go none e = inr (nine e)
+      go (some r) e = inl (_, says ∙ ap (foundAnswer y width) e)
+
+  pub long-plan : (o : LongOutcome) → said ≡ gives o → Plan o
+  long-plan o g = go (beamRow y width) refl
+    where
+      go : (p : Option (List ℕ)) → beamRow y width ≡ p → Plan o
+      go none e = absurd (let z : refuses 9 _ ≡ gives o = sym (nine e .is) ∙ g in let q : _≡_ {A = ℕ} 0 1 = cc in omega arith)
+      go (some r) e = from-row r o e g
+
+  pub long-best : (o : LongOutcome) → said ≡ gives o → o .full ≡ 0 → Best y (take (y .trains) after)
+  long-best o g = long-plan o g .bestIfNoneFull
+
+  -- the plan is one of the allowed rows that cost no less
+  pub long-lower : (o : LongOutcome) → said ≡ gives o → ((other : List ℕ) → T (allowed y other) → o .lower ≤ cost y other) × (o .lower ≤ o .row .cost)
+  unfolding cost
+  long-lower o g =
+      let p = long-plan o g in
+      (p .noneBelow, subst (λ n. o .lower ≤ n .cost) (sym (p .numbers)) (p .noneBelow (take (y .trains) after) (p .isAllowed)))
+
+  pub long-exactly : ((o : LongOutcome) × (said ≡ gives o)) ↔ SomeRow y
+  long-exactly = (
+    λ g. (take (y .trains) after, long-plan (g .0) (g .1) .isAllowed),
+    λ r. ⊎-elim (λ g. g) (λ (n : Nine). absurd (n .nowhere (r .0) (r .1))) long-plan-or-nine,
+  )
+
+  pub long-nine : NoRow y → Nine
+  long-nine nowhere = ⊎-elim (λ (g : (o : LongOutcome) × (said ≡ gives o)). absurd (nowhere (take (y .trains) after) (long-plan (g .0) (g .1) .isAllowed))) (λ n. n) long-plan-or-nine
+
+  pub long-nine-exactly : ((carries : List ℕ) × (said ≡ refuses 9 carries)) ↔ NoRow y
+  long-nine-exactly = (
+    λ w. ⊎-elim (λ (g : (o : LongOutcome) × (said ≡ gives o)). absurd (let z : gives (g .0) ≡ refuses 9 (w .0) = sym (g .1) ∙ w .1 in let q : _≡_ {A = ℕ} 0 1 = cc in omega arith)) (λ (n : Nine). n .nowhere) long-plan-or-nine,
+    λ nowhere. let n = long-nine nowhere in (_, n .is),
+  )
+
+-- ---- the checks, on any record, at any width and in any row
+
+module _ (y : Yard) (width bytes : ℕ) where
+  pub long-unsound : sound longLimits y ≡ false → longPlanned longLimits y width bytes ≡ refuses 8 (0 ∷ [])
+  unfolding longPlanned
+  long-unsound e = rw e
+
+  pub long-width : T (sound longLimits y) → (width < 1) ⊎ (mostWidth < width) → longPlanned longLimits y width bytes ≡ refuses 21 (0 ∷ [])
+  unfolding longPlanned
+  long-width s outside = rw (is-true (sound longLimits y) s, is-false (isWidth width) not-wide)
+    where
+      not-wide : T (isWidth width) → ⊥
+      not-wide t =
+          let (some-width, few) = both-of (leb 1 width) (leb width mostWidth) t in
+          let a = leb→le 1 width some-width in
+          let b = leb→le width mostWidth few in
+          ⊎-elim (λ q. omega arith) (λ q. omega arith) outside
+
+  pub long-short : T (sound longLimits y) → T (isWidth width) → bytes < y .trains → longPlanned longLimits y width bytes ≡ refuses 10 (0 ∷ [])
+  unfolding longPlanned
+  long-short s w short = rw (is-true (sound longLimits y) s, is-true (isWidth width) w, is-false (leb (y .trains) bytes) (λ t. let a = leb→le (y .trains) bytes t in omega arith))
+
+pub long-kept : (y : Yard) (width : ℕ) (row : List ℕ) {k : ℕ} {carries : List ℕ} → longPlanned longLimits y width (length row) ≡ refuses k carries
+    → longRowAfter longLimits y width row ≡ row
+unfolding longPlanned longRowAfter
+long-kept y width row {k} {carries} e = go (holding (longChecks longLimits y width (length row))) refl
+  where
+    unplaced : (o : Option (List ℕ)) → foundAnswer y width o ≡ refuses k carries → placed o row ≡ row
+    unplaced none q = refl
+    unplaced (some r) q = absurd (let z : _≡_ {A = ℕ} 0 1 = cc in omega arith)
+
+    go : (b : Bool) → holding (longChecks longLimits y width (length row)) ≡ b → cond b (placed (beamRow y width) row) row ≡ row
+    go false h = refl
+    go true h =
+        unplaced (beamRow y width)
+        (sym (checked-holds (longChecks longLimits y width (length row)) (foundAnswer y width (beamRow y width)) (holding-all (longChecks longLimits y width (length row)) (of-true h))) ∙ e)
