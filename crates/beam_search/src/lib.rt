@@ -7,7 +7,7 @@ ghost use mathlib.Core.Path.{_≡_};
 ghost use Prim.Native.Nat.{ℕ, _+_, _*_, _≤_, _<_};
 ghost use lib.ListN.{length};
 ghost use Rattle.fold.specs.Fold.{bit};
-ghost use Rattle.set_serving.specs.Serving.{DayTables};
+ghost use Rattle.set_serving.specs.Serving.{SearchTables};
 ghost use Rattle.beam_search.specs.Start.{StartWords};
 ghost use Rattle.beam_search.specs.Slots.{SearchFinds};
 ghost use Rattle.beam_search.specs.Found.{Sized, Searched};
@@ -46,7 +46,7 @@ fn search(
     ends: &[u64],
     sizes: Sizes,
 ) -> Found
-    requires { ⌜ DayTables sizes (now boxes) (now suppliers) (now incoming) (now ends) × (sizes .trains ≤ length (now first)) × (sizes .trains ≤ length (now last)) ⌝ }
+    requires { ⌜ SearchTables sizes (now boxes) (now suppliers) (now incoming) (now ends) × (sizes .trains ≤ length (now first)) × (sizes .trains ≤ length (now last)) ⌝ }
     ensures { λ r. ⌜ SearchFinds sizes (now (first .entry)) (now (last .entry)) (now (boxes .entry)) (now (ends .entry)) (r .plan) (r .full) × (length (r .plan) ≡ 16) ⌝ }
 {
     let mut kept = start_plan(sizes.all);

@@ -5,7 +5,7 @@
 ghost use mathlib.Core.Path.{_≡_};
 ghost use Prim.Native.Nat.{_+_, _≤_, _<_};
 ghost use lib.ListN.{length};
-ghost use Rattle.set_serving.specs.Serving.{DayTables, PlanWords, PlanArray};
+ghost use Rattle.set_serving.specs.Serving.{SearchTables, PlanWords, PlanArray};
 ghost use Rattle.slot_serving.specs.Serving.{ServesPlan, ServesSlot};
 use candidates::Sizes;
 use offering::Held;
@@ -23,7 +23,7 @@ fn serve_plan(
     ready: u64,
     gathered: Held,
 ) -> Held
-    requires { ⌜ DayTables sizes (now boxes) (now suppliers) (now incoming) (now ends) × PlanWords sizes j (now plan) × (j < sizes .slots) × PlanArray sizes (j + 1) (now next) (gathered .count) ⌝ }
+    requires { ⌜ SearchTables sizes (now boxes) (now suppliers) (now incoming) (now ends) × PlanWords sizes j (now plan) × (j < sizes .slots) × PlanArray sizes (j + 1) (now next) (gathered .count) ⌝ }
     ensures { λ r. ⌜ PlanArray sizes (j + 1) (now (next .exit)) (r .count) × ServesPlan sizes (now (boxes .entry)) (now (ends .entry)) (now (plan .entry)) j ready (now (next .entry)) (gathered .count) (gathered .dropped) (now (next .exit)) (r .count) (r .dropped) ⌝ }
 {
     let can = plan[15] & ready;
@@ -62,7 +62,7 @@ pub fn serve_slot(
     j: usize,
     ready: u64,
 ) -> Held
-    requires { ⌜ DayTables sizes (now boxes) (now suppliers) (now incoming) (now ends) × (j < sizes .slots) × (length (now next) ≡ 1024) × PlanArray sizes j (now kept) count ⌝ }
+    requires { ⌜ SearchTables sizes (now boxes) (now suppliers) (now incoming) (now ends) × (j < sizes .slots) × (length (now next) ≡ 1024) × PlanArray sizes j (now kept) count ⌝ }
     ensures { λ r. ⌜ PlanArray sizes (j + 1) (now (next .exit)) (r .count) × ServesSlot sizes (now (boxes .entry)) (now (ends .entry)) j ready (now (kept .entry)) count (now (next .exit)) (r .count) (r .dropped) ⌝ }
 {
     let mut held = Held {
