@@ -135,7 +135,7 @@ passes (comparesIn costs choices procedure d a) = sameAnswer sameComparison (com
 
 -- ---- from the test to the statement
 
-same-outcome : (a b : Outcome) → T (sameOutcome a b) → a ≡ b
+pub same-outcome : (a b : Outcome) → T (sameOutcome a b) → a ≡ b
 unfolding sameOutcome
 same-outcome a b t =
     let (q, c) = both-of (eqb (a .revisits) (b .revisits) && eqb (a .splits) (b .splits) && eqb (a .direct) (b .direct)) (eqb (a .cost) (b .cost)) t in
@@ -171,7 +171,7 @@ same-answer same is (refuses k bs) (refuses m cs) t =
     let (p, q) = both-of (eqb k m) (sameList bs cs) t in
     ap₂ refuses (eqb→eq k m p) (same-list bs cs q)
 
-is-row : (o : Option (List ℕ)) (row : List ℕ) → T (isRow o row) → o ≡ some row
+pub is-row : (o : Option (List ℕ)) (row : List ℕ) → T (isRow o row) → o ≡ some row
 unfolding isRow
 is-row none row t = absurd t
 is-row (some r) row t = ap some (same-list r row t)

@@ -9,7 +9,7 @@ use native.Mathlib.Omega.{arith}
 use lib.Dec.{T}
 use lib.ListN.{length, take}
 use Rattle.model.specs.Model.{Yard}
-use Rattle.day.specs.Answer.{gives, refuses}
+use Rattle.day.specs.Answer.{gives, refuses, code}
 use Rattle.day.specs.Sound.{headRanges, trainRanges, moveRanges, within, sound}
 use Rattle.decimal.specs.Decimal.{more, value}
 use Rattle.lines.specs.Lines.{ascii, byte, names, field, row}
@@ -73,7 +73,14 @@ unfolding readMoves movesEnd groupNames row field value
 long-group-line numbers zero before line s = refl
 long-group-line numbers (suc k) before line s = refl
 
--- a text that is accepted without its last two lines
-pub long-grouped : readDay longLimits (ascii "trains tracks slots revisit split\n1 1 1 0 0\ntrain first last\n7 1 1\nto from boxes\ngroup train\n1 7\n") ≡ refuses 2 (6 ∷ [])
-unfolding readDay readFile readTrains readMoves movesEnd headNames trainNames moveNames groupNames names byte row field value more within headRanges trainRanges
+-- the text of a day of one train is accepted, and not with a group behind it
+unfoldable pub oneTrain : List ℕ
+oneTrain = ascii "trains tracks slots revisit split\n1 1 1 0 0\ntrain first last\n7 1 1\nto from boxes\n"
+
+pub long-ungrouped : code (readDay longLimits oneTrain) ≡ 0
+unfolding oneTrain readDay readFile readTrains readMoves movesEnd headNames trainNames moveNames names byte row field value more within headRanges trainRanges
+long-ungrouped = refl
+
+pub long-grouped : readDay longLimits (oneTrain ++ groupNames ++ ascii "1 7\n") ≡ refuses 2 (6 ∷ [])
+unfolding oneTrain readDay readFile readTrains readMoves movesEnd headNames trainNames moveNames groupNames names byte row field value more within headRanges trainRanges
 long-grouped = refl

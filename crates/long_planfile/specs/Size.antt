@@ -50,7 +50,7 @@ module _ (y : Yard) (row : List ℕ) (f : Fitting y row) where
       let e : suc (slotOf row i - 1) ≡ slotOf row i = omega (arith, f .slotted i h .0) in
       subst (λ t. load (y .trains) row t ≤ y .tracks) e (load-most (slotOf row i - 1))
 
-  -- so a train has direct moves with at most so many
+  -- so where no pair has more than b boxes, a train has at most b direct moves for each track
   module _ (b : ℕ) (few : (i j : ℕ) → i < y .trains → j < y .trains → received y i j ≤ b) where
     direct-pair : (i j : ℕ) → i < y .trains → j < y .trains → directBoxes (received y) row i j ≤ b * bit (eqb (slotOf row j) (slotOf row i))
     unfolding directBoxes
@@ -73,11 +73,13 @@ module _ (y : Yard) (row : List ℕ) (f : Fitting y row) where
 -- ---- the rows of a long day's plan file
 
 module _ (y : Yard) (row : List ℕ) (s : Sound longLimits y) (f : Fitting y row) where
+  -- (27,540 with no boxes of a train for itself: five digits either way)
   direct-few : outcome y row .direct ≤ 36720
   direct-few =
       le-trans (direct-most y row f 255 (s .boxes))
       (mul-le-mul (s .trains .1) (mul-le-mul (le-refl 255) (s .tracks .1)))
 
+  -- the row of values: two, six, five and eleven digits
   abbrev ranges : List Range
   ranges = range 0 36 ∷ range 0 321300 ∷ range 0 36720 ∷ range 0 21058754760 ∷ []
 
