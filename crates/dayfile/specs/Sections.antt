@@ -106,17 +106,18 @@ module _ (l : Limits) (numbers : List ℕ) where
       ∙ ap (addRow r) (moves-written short k rows r (suc line) s e (omega (arith, rows-longer r rows (omega (arith, f .0)))) (f .2)))
 
 -- what a section gives at its end, or else
-ended-or : {X W : Type 0} (b : Bool) (a : X) (c : Answer X) {x : X} → cond b (gives a) c ≡ gives x → (a ≡ x → W) → (c ≡ gives x → W) → W
-ended-or true a c h end on = end cc
+ended-or : {X W : Type 0} (b : Bool) (a : X) (c : Answer X) {x : X} → cond b (gives a) c ≡ gives x → (b ≡ true → a ≡ x → W) → (c ≡ gives x → W) → W
+ended-or true a c h end on = end refl cc
 ended-or false a c h end on = on h
 
 pub record MovesRead (l : Limits) (numbers before s : List ℕ) (x : Rows) : Type 0 where
   pub text : s ≡ rowsText (x .rows) ++ x .rest
   pub fine : FineMoves l numbers before (x .rows)
+  pub ended : movesEnd l (x .rest) ≡ true
 
-moves-done : (l : Limits) (numbers before s : List ℕ) (x : Rows) → record { rows = []; rest = s } ≡ x → MovesRead l numbers before s x
+moves-done : (l : Limits) (numbers before s : List ℕ) (x : Rows) → movesEnd l s ≡ true → record { rows = []; rest = s } ≡ x → MovesRead l numbers before s x
 unfolding rowsText
-moves-done l numbers before s x e = rw (← e) (record { text = refl; fine = tt })
+moves-done l numbers before s x end e = rw (← e) (record { text = refl; fine = tt; ended = end })
 
 pub moves-read : (l : Limits) (numbers : List ℕ) (k : ℕ) (before : List ℕ) (line : ℕ) (s : List ℕ) (x : Rows)
     → readMoves l numbers k before line s ≡ gives x → MovesRead l numbers before s x
@@ -135,6 +136,7 @@ moves-read l numbers (suc k) before line s x h =
     (record {
       text = w .text ∙ ap (λ (u : List ℕ). rowText (r .row) ++ u) (t .text) ∙ sym (append-assoc (rowText (r .row)) (rowsText (z .rows)) (z .rest));
       fine = (w .count, w .holds, t .fine);
+      ended = t .ended;
     }))
 
 -- ---- the groups

@@ -3,7 +3,7 @@
 use mathlib.Core.Path.{_≡_, refl, ap, _∙_}
 use mathlib.Core.Bool.{Bool, true, false, cond}
 use mathlib.Core.List.{List, [], _∷_}
-use Prim.Native.Nat.{ℕ}
+use Prim.Native.Nat.{ℕ, suc}
 use lib.Dec.{eqb}
 use lib.ListN.{getD}
 use Rattle.day.specs.Answer.{number, carried}
@@ -44,10 +44,10 @@ carried-values TrainNotAddable = refl
 carried-values NoOpenSlot = refl
 carried-values WidthOutOfRange = refl
 
--- so none carries a fourth
-pub no-fourth : (r : Refusal) → getD (carried r) 3 0 ≡ 0
-no-fourth r = ap (λ l. getD l 3 0) (carried-values r) ∙ go (eqb (number r) 9)
+-- so none carries a fourth, and none behind that
+pub no-more : (r : Refusal) (i : ℕ) → getD (carried r) (suc (suc (suc i))) 0 ≡ 0
+no-more r i = ap (λ l. getD l (suc (suc (suc i))) 0) (carried-values r) ∙ go (eqb (number r) 9)
   where
-    go : (b : Bool) → getD (cond b (getD (carried r) 0 0 ∷ getD (carried r) 1 0 ∷ getD (carried r) 2 0 ∷ []) (getD (carried r) 0 0 ∷ [])) 3 0 ≡ 0
+    go : (b : Bool) → getD (cond b (getD (carried r) 0 0 ∷ getD (carried r) 1 0 ∷ getD (carried r) 2 0 ∷ []) (getD (carried r) 0 0 ∷ [])) (suc (suc (suc i))) 0 ≡ 0
     go true = refl
     go false = refl

@@ -1,8 +1,9 @@
--- What a caller who lends room for numbers is told about the day of a text: the four numbers of a row, or what the refusal carries.
+-- What a caller who lends room for numbers is told about the day of a text: the four numbers of a row, or what the refusal carries. The
+-- same of any count of numbers, for calls that tell more than a row's.
 -- Assumes nothing.
 use mathlib.Core.Bool.{cond}
 use mathlib.Core.List.{List, [], _∷_, _++_}
-use Prim.Native.Nat.{ℕ}
+use Prim.Native.Nat.{ℕ, zero, suc}
 use lib.Dec.{leb}
 use lib.ListN.{length, getD, drop}
 use Rattle.model.specs.Model.{Yard, Outcome}
@@ -17,8 +18,11 @@ numberCount = 4
 
 -- ---- the day of a text, for a caller who lends room for `size` numbers: 10 where these are fewer, else what reading answers
 
+abbrev pub dayWith : ℕ → Limits → List ℕ → ℕ → Answer Yard
+dayWith count l text size = checked (must (leb count size) 10 (0 ∷ []) ∷ []) (readDay l text)
+
 abbrev pub dayFor : Limits → List ℕ → ℕ → Answer Yard
-dayFor l text size = checked (must (leb numberCount size) 10 (0 ∷ []) ∷ []) (readDay l text)
+dayFor = dayWith numberCount
 
 -- what is answered for that day
 abbrev pub forDay : {X : Type 0} → Limits → List ℕ → ℕ → (Yard → Answer X) → Answer X
@@ -26,11 +30,23 @@ forDay l text size f = onGiven (dayFor l text size) f
 
 -- ---- the numbers
 
--- those of the row, in the order of the plan file's names line, or what the refusal carries and then zeros
-abbrev pub numbersTold : Answer Outcome → List ℕ
-numbersTold (gives o) = figuresOf o
-numbersTold (refuses k carries) = getD carries 0 0 ∷ getD carries 1 0 ∷ getD carries 2 0 ∷ getD carries 3 0 ∷ []
+-- so many of the values that a refusal carries, from the i-th on, and then zeros
+abbrev pub carriedFrom : List ℕ → ℕ → ℕ → List ℕ
+carriedFrom carries i zero = []
+carriedFrom carries i (suc count) = getD carries i 0 ∷ carriedFrom carries (suc i) count
+
+-- the figures of what is given, or what the refusal carries and then zeros
+abbrev pub toldBy : {X : Type 0} → ℕ → (X → List ℕ) → Answer X → List ℕ
+toldBy count figures (gives x) = figures x
+toldBy count figures (refuses k carries) = carriedFrom carries 0 count
 
 -- where there is room for them they are the first numbers, and those beyond stay
-unfoldable pub numbersAfter : Answer Outcome → List ℕ → List ℕ
-numbersAfter a numbers = cond (leb numberCount (length numbers)) (numbersTold a ++ drop numberCount numbers) numbers
+unfoldable pub afterBy : {X : Type 0} → ℕ → (X → List ℕ) → Answer X → List ℕ → List ℕ
+afterBy count figures a numbers = cond (leb count (length numbers)) (toldBy count figures a ++ drop count numbers) numbers
+
+-- those of a row, in the order of the plan file's names line
+abbrev pub numbersTold : Answer Outcome → List ℕ
+numbersTold = toldBy numberCount figuresOf
+
+abbrev pub numbersAfter : Answer Outcome → List ℕ → List ℕ
+numbersAfter = afterBy numberCount figuresOf

@@ -39,21 +39,21 @@ module _ (l : Limits) (text cost choice row numbers : List ℕ) where
   pub plans-nothing : leb numberCount (length numbers) ≡ false → PlansText l text cost choice row numbers 10 cost choice row numbers 0
   unfolding planFor rowFor openFor slotsFor
   plans-nothing h =
-      let e = no-room l text (length numbers) h in
+      let e = no-room numberCount l text (length numbers) h in
       record { says = rw e; numbersAre = none-told _ numbers h; rowIs = rw e; costs = rw e; choices = rw e; written = rw e }
 
   pub plans-refused : {said : ℕ} {numbers′ : List ℕ} (r : Refusal) → leb numberCount (length numbers) ≡ true → readDay l text ≡ refusal r → Told numbers (refusal r) said numbers′
       → PlansText l text cost choice row numbers said cost choice row numbers′ 0
   unfolding planFor rowFor openFor slotsFor
   plans-refused {said} {numbers′} r h f t =
-      let e = with-room l text (length numbers) h f in
+      let e = with-room numberCount l text (length numbers) h f in
       record { says = rw e (t .says); numbersAre = rw e (told-after h t); rowIs = rw e; costs = rw e; choices = rw e; written = rw e }
 
   pub plans-day : {returned : ℕ} {cost′ choice′ row′ numbers′ : List ℕ} {trains : ℕ} (y : Yard) → leb numberCount (length numbers) ≡ true → readDay l text ≡ gives y
       → PlansDay l y cost choice row numbers returned cost′ choice′ row′ numbers′ trains → PlansText l text cost choice row numbers returned cost′ choice′ row′ numbers′ trains
   unfolding planFor rowFor openFor slotsFor
   plans-day y h f p =
-      let e = with-room l text (length numbers) h f in
+      let e = with-room numberCount l text (length numbers) h f in
       let t = told-same (p .left .says) (p .told) in
       record {
         says = rw e (t .says);

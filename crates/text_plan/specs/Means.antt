@@ -34,7 +34,7 @@ use Rattle.text_plan.specs.TextPlan.{planFor, rowFor, openFor, slotsIn, 
 module _ (l : Limits) (text : List ℕ) (y : Yard) (reads : readDay l text ≡ gives y) (costs choices size : ℕ) (row : List ℕ)
     (room : 4 ≤ size) (costsNamed : 2 ^ y .trains ≤ costs) (choicesNamed : y .slots * 2 ^ y .trains ≤ choices) (rowNamed : y .trains ≤ length row) where
   day : dayFor l text size ≡ gives y
-  day = with-room l text size (le-leb 4 size room) reads
+  day = with-room numberCount l text size (le-leb 4 size room) reads
 
   begun : T (begins l y costs choices (length row))
   begun = memory-suffices l y costs choices (length row) (read-sound l text y reads) costsNamed choicesNamed rowNamed

@@ -16,7 +16,7 @@ use Rattle.planning.specs.Planning.{costArea, choiceArea}
 use Rattle.comparing.specs.Comparing.{Comparison, comparisonOf, comparisonOrZero}
 use Rattle.baselines.specs.Baselines.{compared}
 use Rattle.comparing.specs.declared.Baseline.{Baseline}
-use Rattle.telling.specs.Telling.{numberCount, numbersTold, numbersAfter}
+use Rattle.telling.specs.Telling.{numberCount, numbersTold, afterBy, numbersAfter}
 use Rattle.telling.specs.Laws.{Told, none-told, numbers-given}
 use Rattle.text_savings.specs.TextSavings.{compareText, outcomes}
 
@@ -66,5 +66,5 @@ module _ (l : Limits) (text numbers : List ℕ) (procedure : Yard → List ℕ) 
       → (said ≡ code (compareText procedure l text (length numbers)))
       × ((after ≡ numbersAfter (outcomes (compareText procedure l text (length numbers))) numbers)
       × (saving ≡ comparisonOrZero (compareText procedure l text (length numbers)) .saving))
-  unfolding compareText numbersAfter
+  unfolding compareText afterBy
   told-saving h e t = (rw (h, e) (t .says), (rw (h, e) (t .numbers), rw (h, e) (t .saving)))

@@ -39,7 +39,7 @@ use Rattle.planning.specs.Answers.{areas-suffice, planned-only, from-best, plan
 use Rattle.comparing.specs.Comparing.{Comparison}
 use Rattle.baselines.specs.Baselines.{compared}
 use Rattle.baselines.specs.Savings.{compared-only, compared-boxes}
-use Rattle.telling.specs.Telling.{dayFor, forDay}
+use Rattle.telling.specs.Telling.{numberCount, dayFor, forDay}
 use Rattle.telling.specs.Laws.{no-room, with-room}
 use Rattle.text_plan.specs.TextPlan.{planFor}
 use Rattle.text_plan.specs.Means.{plans-best}
@@ -76,7 +76,7 @@ module _ (text : List ℕ) where
       → OfReading (code (forDay dayLimits text size f)) ⊎ own (code (forDay dayLimits text size f))
   for-sound own size f h g =
       returned own (forDay dayLimits text size f)
-      (subst (λ (a : Answer Yard). Only (Or own) (onGiven a f)) (sym (with-room dayLimits text size (le-leb 4 size h) refl))
+      (subst (λ (a : Answer Yard). Only (Or own) (onGiven a f)) (sym (with-room numberCount dayLimits text size (le-leb 4 size h) refl))
       (only-given (Or own) (readDay dayLimits text) f (only-wider Lined (Or own) (readDay dayLimits text) (λ k carries q. inl (of-reading k (q .0))) (read-lined dayLimits text))
       λ y e. only-wider (λ k carries. own k) (Or own) (f y) (λ k carries q. inr q) (g y (read-sound dayLimits text y e))))
 
@@ -107,7 +107,7 @@ module _ (text : List ℕ) where
 
   module _ (y : Yard) (reads : readDay dayLimits text ≡ gives y) (size : ℕ) (room : 4 ≤ size) where
     day : dayFor dayLimits text size ≡ gives y
-    day = with-room dayLimits text size (le-leb 4 size room) reads
+    day = with-room numberCount dayLimits text size (le-leb 4 size room) reads
 
     pub value-allowed : (row : List ℕ) → T (allowed y row) → valueText dayLimits text row size ≡ gives (outcome y row)
     unfolding valueText
@@ -155,7 +155,7 @@ module _ (text : List ℕ) where
 
   module _ (size : ℕ) (short : size < 4) where
     none : {X : Type 0} (f : Yard → Answer X) → code (forDay dayLimits text size f) ≡ 10
-    none f = rw (no-room dayLimits text size (lt-leb 4 size short))
+    none f = rw (no-room numberCount dayLimits text size (lt-leb 4 size short))
 
     pub no-numbers : (row : List ℕ) (procedure : Yard → List ℕ) (costs choices bytes : ℕ)
         → (code (valueText dayLimits text row size) ≡ 10) × ((code (compareText procedure dayLimits text size) ≡ 10) × (code (planFor dayLimits text costs choices bytes size) ≡ 10))
