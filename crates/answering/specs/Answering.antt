@@ -26,9 +26,12 @@ replyBy print (refuses k carries) = refusalText k carries
 abbrev pub dayReply : Yard → Option (List ℕ) → List ℕ
 dayReply y best = replyBy (planText y) (bestRow y best)
 
--- a text: the reply to its day, or reading's refusal
+-- a text: the reply to its day, by the row that is found for it, or reading's refusal
+abbrev pub foundReply : (Yard → Option (List ℕ)) → Answer Yard → List ℕ
+foundReply find = replyBy λ y. dayReply y (find y)
+
 abbrev pub reply : Answer Yard → List ℕ
-reply = replyBy λ y. dayReply y (bestOf y)
+reply = foundReply bestOf
 
 unfoldable pub answerText : Limits → List ℕ → List ℕ
 answerText l text = reply (readDay l text)

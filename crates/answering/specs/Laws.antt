@@ -9,7 +9,7 @@ use native.Mathlib.Omega.{arith}
 use lib.Dec.{T}
 use lib.ListN.{length, getD, drop, List·getD-append}
 use Rattle.fold.specs.Listed.{listed-ext}
-use Rattle.model.specs.Model.{Yard, Outcome, outcome}
+use Rattle.model.specs.Model.{Yard, Outcome, outcome, allowed}
 use Rattle.model.specs.BestOf.{bestOf, is-best}
 use Rattle.model.specs.Overbooked.{Interval, firstOverbooked}
 use Rattle.model.specs.Rows.{allowed-is}
@@ -31,10 +31,10 @@ use Rattle.answering.specs.Answering.{replyBy, dayReply, reply, answerTe
 
 -- ---- a refusal is no longer than a plan file can be
 
-pub fits-plan : {P : Type 0} {count : ℕ} → P × (count ≤ refusalBytes) → P × (count ≤ planBytes)
-fits-plan h = (h .0, omega (arith, h .1))
+pub fits-most : {P : Type 0} {count : ℕ} (most : ℕ) → refusalBytes ≤ most → P × (count ≤ refusalBytes) → P × (count ≤ most)
+fits-most most long h = (h .0, omega (arith, h .1))
 
--- ---- the reply to a sound day, from planning's answer and its row
+-- ---- the reply to a sound day, from planning's answer and its row, whatever row planning looks for
 
 -- the plan file reads no more of a row than its n slots
 lines-front : (n : ℕ) (numbers : List ℕ) (o : Outcome) (best beyond : List ℕ) → length best ≡ n → planLines n numbers o (best ++ beyond) ≡ planLines n numbers o best
@@ -44,9 +44,9 @@ lines-front n numbers o best beyond long =
     (listed-ext n (slotRow numbers (best ++ beyond)) (slotRow numbers best)
     (λ i h. ap (λ x. getD numbers i 0 ∷ x ∷ []) (List·getD-append best beyond 0 i (omega arith))))
 
-module _ (y : Yard) where
-  pub refused-reply : (r : Refusal) → refuses (number r) (carried r) ≡ bestAnswer y (bestOf y) → refusalText (number r) (carried r) ≡ dayReply y (bestOf y)
-  refused-reply r e = go (bestOf y) e
+module _ (y : Yard) (found : Option (List ℕ)) where
+  pub refused-reply : (r : Refusal) → refuses (number r) (carried r) ≡ bestAnswer y found → refusalText (number r) (carried r) ≡ dayReply y found
+  refused-reply r e = go found e
     where
       nowhere : (w : Option Interval) → _≡_ {A = Answer Outcome} (refuses (number r) (carried r)) (noRow y w) → refusalText (number r) (carried r) ≡ replyBy (planText y) (noRow y w)
       nowhere none e = cc
@@ -56,23 +56,33 @@ module _ (y : Yard) where
       go none e = nowhere (firstOverbooked y) (e ∙ none-answer y)
       go (some row) e = absurd (let z : _≡_ {A = ℕ} 0 1 = cc in omega arith)
 
-  module _ (s : T (sound dayLimits y)) {o : Outcome} (row : List ℕ) (e : gives o ≡ bestAnswer y (bestOf y)) where
-    pub plan-reply : planLines (y .trains) (y .numbers) o (placed (bestOf y) row) ≡ dayReply y (bestOf y)
-    plan-reply = go (bestOf y) refl e
+  -- a row that is found is allowed
+  module _ (isAllowed : (row : List ℕ) → found ≡ some row → T (allowed y row)) {o : Outcome} (row : List ℕ) (e : gives o ≡ bestAnswer y found) where
+    pub plan-reply : planLines (y .trains) (y .numbers) o (placed found row) ≡ dayReply y found
+    plan-reply = go found refl e
       where
-        go : (b : Option (List ℕ)) → bestOf y ≡ b → gives o ≡ bestAnswer y b → planLines (y .trains) (y .numbers) o (placed b row) ≡ dayReply y b
+        go : (b : Option (List ℕ)) → found ≡ b → gives o ≡ bestAnswer y b → planLines (y .trains) (y .numbers) o (placed b row) ≡ dayReply y b
         go none f e = absurd (none-gives y o (sym e))
         go (some best) f e =
             let same : o ≡ outcome y best = cc in
-            lines-front (y .trains) (y .numbers) o best (drop (length best) row) (allowed-is y best (is-best y best f .isAllowed) .long)
+            lines-front (y .trains) (y .numbers) o best (drop (length best) row) (allowed-is y best (isAllowed best f) .long)
             ∙ ap (λ v. planLines (y .trains) (y .numbers) v best) same
 
-    pub plan-fits : length (planLines (y .trains) (y .numbers) o (placed (bestOf y) row)) ≤ planBytes
-    plan-fits = rw plan-reply (go (bestOf y) refl e)
+    pub plan-fits : (most : ℕ) → ((r : List ℕ) → T (allowed y r) → length (planText y r) ≤ most) → length (planLines (y .trains) (y .numbers) o (placed found row)) ≤ most
+    plan-fits most size = rw plan-reply (go found refl e)
       where
-        go : (b : Option (List ℕ)) → bestOf y ≡ b → gives o ≡ bestAnswer y b → length (dayReply y b) ≤ planBytes
+        go : (b : Option (List ℕ)) → found ≡ b → gives o ≡ bestAnswer y b → length (dayReply y b) ≤ most
         go none f e = absurd (none-gives y o (sym e))
-        go (some best) f e = omega (arith, plan-size dayLimits y best (sound-is dayLimits y s) (is-best y best f .isAllowed), plan-most)
+        go (some best) f e = size best (isAllowed best f)
+
+-- ---- the best row
+
+module _ (y : Yard) where
+  pub best-allowed : (row : List ℕ) → bestOf y ≡ some row → T (allowed y row)
+  best-allowed row e = is-best y row e .isAllowed
+
+  pub best-size : T (sound dayLimits y) → (row : List ℕ) → T (allowed y row) → length (planText y row) ≤ planBytes
+  best-size s row a = omega (arith, plan-size dayLimits y row (sound-is dayLimits y s) a, plan-most)
 
 -- ---- the answer to a text, from what reading has answered
 

@@ -1,11 +1,13 @@
 -- `answering::put_answer` meets its contract. What reading refuses is told; what it accepts is sound, and planned.
 -- Assumes nothing.
 use mathlib.Core.Path.{_≡_, sym, ap, _∙_}
+use native.Mathlib.Omega.{arith}
 use Rattle.day.specs.Answer.{gives, refusal, judged}
 use Rattle.day.specs.Sound.{dayLimits, yard}
 use Rattle.dayfile.specs.Reading.{readDay}
 use Rattle.dayfile.specs.RoundTrip.{read-sound}
-use Rattle.answering.specs.Laws.{fits-plan, refused-answer, accepted-answer}
+use Rattle.planfile.specs.Size.{planBytes}
+use Rattle.answering.specs.Laws.{fits-most, refused-answer, accepted-answer}
 use borrow.Author.Needs.{needs}
 use Rattle.answering.proofs.put_answer.Statement.{statement}
 use Rattle.answering.proofs.put_answer.Tie as tie
@@ -43,7 +45,7 @@ same-length c = search needs
 returns : tie.Need-returns
 returns c =
     let f = c .before .before in
-    rw (← refused-answer dayLimits _ (f .before .before .before .verdict .given .0 .0) (refused (f .before .before))) (fits-plan (f .put-refusal .ensures))
+    rw (← refused-answer dayLimits _ (f .before .before .before .verdict .given .0 .0) (refused (f .before .before))) (fits-most planBytes (omega arith) (f .put-refusal .ensures))
 
 same-length-2 : tie.Need-same-length-2
 same-length-2 c = search needs

@@ -17,7 +17,7 @@ use Rattle.planfile.specs.Size.{planBytes}
 use Rattle.planning.specs.Planning.{answer, begins, bestAnswer, placed}
 use Rattle.planning.specs.Answers.{planned-begun, row-begun, areas-suffice}
 use Rattle.answering.specs.Answering.{dayReply}
-use Rattle.answering.specs.Laws.{fits-plan, refused-reply, plan-reply, plan-fits}
+use Rattle.answering.specs.Laws.{fits-most, refused-reply, plan-reply, plan-fits, best-allowed, best-size}
 use borrow.Author.Needs.{needs}
 use Rattle.answering.proofs.put_best.Statement.{statement}
 use Rattle.answering.proofs.put_best.Tie as tie
@@ -52,13 +52,15 @@ lines-are : (c : tie.After-known-told2) → let y = yard (start (plan-of c) .arg
 lines-are c =
     let p = plan-of c in
     let s = start p in
-    ap (lines c) (row-left p .1) ∙ plan-reply (yard (s .args .day)) (s .pre .0) (row-left p .0) (plan-said c)
+    let y = yard (s .args .day) in
+    ap (lines c) (row-left p .1) ∙ plan-reply y (bestOf y) (best-allowed y) (row-left p .0) (plan-said c)
 
 lines-fit : (c : tie.After-known-told2) → length (lines c (plan-of c .plan .last .1 .1 .1 .0)) ≤ planBytes
 lines-fit c =
     let p = plan-of c in
     let s = start p in
-    omega (arith, ap (λ r. length (lines c r)) (row-left p .1), plan-fits (yard (s .args .day)) (s .pre .0) (row-left p .0) (plan-said c))
+    let y = yard (s .args .day) in
+    omega (arith, ap (λ r. length (lines c r)) (row-left p .1), plan-fits y (bestOf y) (best-allowed y) (row-left p .0) (plan-said c) planBytes (best-size y (s .pre .0)))
 
 slice-aggregate-plan : tie.Need-slice-aggregate-plan
 slice-aggregate-plan c = search needs
@@ -104,7 +106,7 @@ returns c =
     let k = f .before .before in
     let p = k .before .before .before .before .before .before in
     let s = start p in
-    rw (← refused-reply (yard (s .args .day)) (k .before .refusal .given .0 .0) (sym (ap answer (k .before .refusal .given .1)) ∙ best-said p)) (fits-plan (f .put-refusal .ensures))
+    rw (← refused-reply (yard (s .args .day)) (bestOf (yard (s .args .day))) (k .before .refusal .given .0 .0) (sym (ap answer (k .before .refusal .given .1)) ∙ best-said p)) (fits-most planBytes (omega arith) (f .put-refusal .ensures))
 
 same-length-2 : tie.Need-same-length-2
 same-length-2 c = search needs
