@@ -10,6 +10,7 @@
 -- On any day, at any width and in any row:
 --   long-unsound, long-width, long-short   when 8, 21 and 10 are returned, in this order;
 --   long-kept          a refusal leaves every byte of the row.
+-- The laws `found-…` say the same of the search itself, and `long-planned`, `long-row` what the call answers and leaves where its checks hold.
 -- Assumes nothing.
 use mathlib.Core.Path.{_≡_, refl, sym, ap, _∙_, subst}
 use mathlib.Core.Bool.{Bool, true, false, cond, _&&_}
@@ -22,17 +23,17 @@ use lib.Dec.{T, leb, leb→le, le→leb}
 use lib.ListN.{length, take, drop}
 use Rattle.fold.specs.Test.{is-true, is-false, of-true, both, both-of}
 use Rattle.fold.specs.Listed.{take-front, drop-front}
-use Rattle.model.specs.Model.{Yard, outcome, cost, boundInside, allowed, fitting, Best, SomeRow, NoRow, FirstOverbooked}
+use Rattle.model.specs.Model.{Yard, outcome, cost, boundInside, allowed, Best, SomeRow, NoRow, FirstOverbooked}
 use Rattle.model.specs.Rows.{allowed-is}
 use Rattle.model.specs.Overbooked.{Interval, firstOverbooked, SaysFirst, first-says}
 use Rattle.day.specs.Answer.{Answer, gives, refuses, code, checked, holding}
-use Rattle.day.specs.AnswerLaws.{gives-same, checked-holds, all-holding, holding-all}
+use Rattle.day.specs.AnswerLaws.{AllHold, gives-same, checked-holds, all-holding, holding-all}
 use Rattle.day.specs.Sound.{sound}
 use Rattle.day.specs.SoundLaws.{Sound, sound-is}
 use Rattle.feasibility.specs.RowOrNone.{none-fitting}
 use Rattle.planning.specs.Planning.{noRow, placed}
 use Rattle.beam.specs.Beam.{fullSlots, beamRow}
-use Rattle.beam.specs.LowerFigure.{figure-lower}
+use Rattle.beam.specs.LowerFigure.{lowerFigure, figure-lower}
 use Rattle.beam.specs.Result.{Says, beam-says, best-fitting}
 use Rattle.beam.specs.NothingCut.{SaysBest, beam-best}
 use Rattle.long_day.specs.LongDay.{longLimits}
@@ -45,30 +46,48 @@ module _ (y : Yard) (width : ℕ) (isSound : T (sound longLimits y)) (someWidth 
   is : Sound longLimits y
   is = sound-is longLimits y isSound
 
-  -- a row that it finds is allowed, and none is found exactly where none is
-  SaysAllowed : Option (List ℕ) → Type 0
-  SaysAllowed none = NoRow y
-  SaysAllowed (some row) = T (allowed y row)
+  searched : Says y (beamRow y width)
+  searched = beam-says y width (is .windows) someWidth
 
-  found-allowed : (o : Option (List ℕ)) → Says y o → SaysAllowed o
-  unfolding SaysAllowed
-  found-allowed none says = λ row ok. says row (subst T (long-allowed y isSound row) ok)
-  found-allowed (some row) says = subst T (sym (long-allowed y isSound row)) says
+  -- a row that it finds is allowed, and where it finds none, none is
+  pub found-allowed : (row : List ℕ) → beamRow y width ≡ some row → T (allowed y row)
+  found-allowed row e = subst T (sym (long-allowed y isSound row)) (subst (Says y) e searched)
+
+  pub found-nowhere : beamRow y width ≡ none → NoRow y
+  found-nowhere e = λ row ok. subst (Says y) e searched row (subst T (long-allowed y isSound row) ok)
+
+  -- no allowed row costs less than the lower figure
+  pub found-lower : (other : List ℕ) → T (allowed y other) → lowerFigure y ≤ cost y other
+  found-lower other ok = figure-lower y (is .own) other (subst T (long-allowed y isSound other) ok)
 
   -- where nothing was cut it is the best plan
-  found-best : (row : List ℕ) → beamRow y width ≡ some row → fullSlots y width ≡ 0 → Best y row
+  pub found-best : (row : List ℕ) → beamRow y width ≡ some row → fullSlots y width ≡ 0 → Best y row
   found-best row e uncut = best-fitting y (long-allowed y isSound) row (subst (SaysBest y) e (beam-best y width someWidth uncut (is .windows)))
 
   -- where it finds none an interval is overbooked
-  found-none : beamRow y width ≡ none → (w : Interval) × (firstOverbooked y ≡ some w)
+  pub found-none : beamRow y width ≡ none → (w : Interval) × (firstOverbooked y ≡ some w)
   found-none e = go (firstOverbooked y) refl
     where
-      nowhere : (row : List ℕ) → T (fitting y row) → ⊥
-      nowhere = subst (Says y) e (beam-says y width (is .windows) someWidth)
-
       go : (o : Option Interval) → firstOverbooked y ≡ o → (w : Interval) × (firstOverbooked y ≡ some w)
-      go none f = let (row, fits) = none-fitting y (is .windows) f in absurd (nowhere row fits)
+      go none f = let (row, fits) = none-fitting y (is .windows) f in absurd (subst (Says y) e searched row fits)
       go (some w) f = (w, f)
+
+-- ---- what the call answers and leaves where its checks hold
+
+module _ (y : Yard) (width : ℕ) (isSound : T (sound longLimits y)) (someWidth : 1 ≤ width) (fewWidth : width ≤ mostWidth) where
+  all-hold : (bytes : ℕ) → y .trains ≤ bytes → AllHold (longChecks longLimits y width bytes)
+  all-hold bytes long =
+      (isSound, (both (leb 1 width) (leb width mostWidth) (le→leb 1 width someWidth) (le→leb width mostWidth fewWidth), (le→leb (y .trains) bytes long, tt)))
+
+  pub long-planned : (bytes : ℕ) → y .trains ≤ bytes → longPlanned longLimits y width bytes ≡ foundAnswer y width (beamRow y width)
+  unfolding longPlanned
+  long-planned bytes long = checked-holds (longChecks longLimits y width bytes) (foundAnswer y width (beamRow y width)) (all-hold bytes long)
+
+  pub long-row : (row : List ℕ) → y .trains ≤ length row → longRowAfter longLimits y width row ≡ placed (beamRow y width) row
+  unfolding longRowAfter
+  long-row row long =
+      ap (λ b. cond b (placed (beamRow y width) row) row)
+      (is-true (holding (longChecks longLimits y width (length row))) (all-holding (longChecks longLimits y width (length row)) (all-hold (length row) long)))
 
 -- ---- the sentences
 
@@ -76,25 +95,11 @@ module _ (y : Yard) (width : ℕ) (row : List ℕ)
     (isSound : T (sound longLimits y)) (someWidth : 1 ≤ width) (fewWidth : width ≤ mostWidth) (rowNamed : y .trains ≤ length row)
     (said : Answer LongOutcome) (after : List ℕ)
     (contract : said ≡ longPlanned longLimits y width (length row)) (contractRow : after ≡ longRowAfter longLimits y width row) where
-  wide : T (isWidth width)
-  wide = both (leb 1 width) (leb width mostWidth) (le→leb 1 width someWidth) (le→leb width mostWidth fewWidth)
-
   says : said ≡ foundAnswer y width (beamRow y width)
-  unfolding longPlanned
-  says =
-      contract
-      ∙ checked-holds (longChecks longLimits y width (length row)) (foundAnswer y width (beamRow y width)) (isSound, (wide, (le→leb (y .trains) (length row) rowNamed, tt)))
+  says = contract ∙ long-planned y width isSound someWidth fewWidth (length row) rowNamed
 
   rowIs : after ≡ placed (beamRow y width) row
-  unfolding longRowAfter
-  rowIs =
-      contractRow
-      ∙ ap (λ b. cond b (placed (beamRow y width) row) row)
-      (is-true (holding (longChecks longLimits y width (length row)))
-      (all-holding (longChecks longLimits y width (length row)) (isSound, (wide, (le→leb (y .trains) (length row) rowNamed, tt)))))
-
-  allowedOrNone : (o : Option (List ℕ)) → beamRow y width ≡ o → SaysAllowed y width isSound someWidth o
-  allowedOrNone o e = found-allowed y width isSound someWidth o (subst (Says y) e (beam-says y width (sound-is longLimits y isSound .windows) someWidth))
+  rowIs = contractRow ∙ long-row y width isSound someWidth fewWidth row rowNamed
 
   pub record Plan (o : LongOutcome) : Type 0 where
     pub isAllowed : T (allowed y (take (y .trains) after))
@@ -112,9 +117,8 @@ module _ (y : Yard) (width : ℕ) (row : List ℕ)
     pub is : said ≡ refuses 9 (first ∷ last ∷ boundInside y first last ∷ [])
 
   from-row : (r : List ℕ) (o : LongOutcome) → beamRow y width ≡ some r → said ≡ gives o → Plan o
-  unfolding SaysAllowed
   from-row r o e g =
-      let ok : T (allowed y r) = allowedOrNone (some r) e in
+      let ok = found-allowed y width isSound someWidth r e in
       let long = allowed-is y r ok .long in
       let placed-is : after ≡ r ++ drop (y .trains) row = rowIs ∙ ap (λ p. placed p row) e ∙ ap (λ k. r ++ drop k row) long in
       let front : take (y .trains) after ≡ r = ap (take (y .trains)) placed-is ∙ take-front r (drop (y .trains) row) long in
@@ -126,17 +130,14 @@ module _ (y : Yard) (width : ℕ) (row : List ℕ)
         full = ap (λ (n : LongOutcome). n .full) (sym numbers);
         beyond = ap (drop (y .trains)) placed-is ∙ drop-front r (drop (y .trains) row) long;
         bestIfNoneFull = λ z. subst (Best y) (sym front) (found-best y width isSound someWidth r e (ap (λ (n : LongOutcome). n .full) numbers ∙ z));
-        noneBelow = λ other ok.
-            subst (λ k. k ≤ cost y other) (ap (λ (n : LongOutcome). n .lower) numbers)
-            (figure-lower y (sound-is longLimits y isSound .own) other (subst T (long-allowed y isSound other) ok));
+        noneBelow = λ other ok. subst (λ k. k ≤ cost y other) (ap (λ (n : LongOutcome). n .lower) numbers) (found-lower y width isSound someWidth other ok);
       }
 
   nine : beamRow y width ≡ none → Nine
-  unfolding SaysAllowed
   nine e =
       let (w, f) = found-none y width isSound someWidth e in
       record {
-        nowhere = allowedOrNone none e;
+        nowhere = found-nowhere y width isSound someWidth e;
         first = w .first;
         last = w .last;
         named = subst (SaysFirst y) f (first-says y);
