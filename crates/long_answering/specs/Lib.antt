@@ -1,0 +1,3 @@
+pub mod LongAnswering
+pub mod Laws
+pub mod LongPrinted
