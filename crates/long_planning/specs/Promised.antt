@@ -102,9 +102,13 @@ module _ (y : Yard) (width : ℕ) (row : List ℕ)
   rowIs = contractRow ∙ long-row y width isSound someWidth fewWidth row rowNamed
 
   pub record Plan (o : LongOutcome) : Type 0 where
-    pub isAllowed : T (allowed y (take (y .trains) after))
+    -- the row is the search's, and the three other answers are what they are said to be
+    pub found : beamRow y width ≡ some (take (y .trains) after)
     pub numbers : o .row ≡ outcome y (take (y .trains) after)
     pub full : o .full ≡ fullSlots y width
+    pub lower : o .lower ≡ lowerFigure y
+    -- the promises
+    pub isAllowed : T (allowed y (take (y .trains) after))
     pub beyond : drop (y .trains) after ≡ drop (y .trains) row
     pub bestIfNoneFull : o .full ≡ 0 → Best y (take (y .trains) after)
     pub noneBelow : (other : List ℕ) → T (allowed y other) → o .lower ≤ cost y other
@@ -125,9 +129,11 @@ module _ (y : Yard) (width : ℕ) (row : List ℕ)
       let same : foundAnswer y width (some r) ≡ gives o = sym (says ∙ ap (foundAnswer y width) e) ∙ g in
       let numbers = gives-same same in
       record {
-        isAllowed = subst (λ p. T (allowed y p)) (sym front) ok;
+        found = e ∙ ap some (sym front);
         numbers = ap (λ (n : LongOutcome). n .row) (sym numbers) ∙ ap (outcome y) (sym front);
         full = ap (λ (n : LongOutcome). n .full) (sym numbers);
+        lower = ap (λ (n : LongOutcome). n .lower) (sym numbers);
+        isAllowed = subst (λ p. T (allowed y p)) (sym front) ok;
         beyond = ap (drop (y .trains)) placed-is ∙ drop-front r (drop (y .trains) row) long;
         bestIfNoneFull = λ z. subst (Best y) (sym front) (found-best y width isSound someWidth r e (ap (λ (n : LongOutcome). n .full) numbers ∙ z));
         noneBelow = λ other ok. subst (λ k. k ≤ cost y other) (ap (λ (n : LongOutcome). n .lower) numbers) (found-lower y width isSound someWidth other ok);
