@@ -17,7 +17,7 @@ use crate::special::last_move;
 /// A row too many in the first section, after the trains or at the end, or a
 /// names line there.
 fn extra_row(random: &mut Random, draft: &mut Draft) {
-    let after_trains = 3 + draft.day.trains.len();
+    let after_trains = 3 + draft.trains.len();
     let line = random.pick(&[2, after_trains, draft.lines.len()]);
     let names = random.pick(&[HEAD_NAMES, TRAIN_NAMES, MOVE_NAMES, GROUP_NAMES]).as_bytes();
     let head = draft.lines.get(1).cloned().unwrap_or_default();
@@ -29,7 +29,7 @@ fn extra_row(random: &mut Random, draft: &mut Draft) {
 
 /// The train count says one more or one fewer than there are rows.
 fn change_count(random: &mut Random, draft: &mut Draft) {
-    let n = draft.day.trains.len();
+    let n = draft.trains.len();
     for line in draft.head_lines() {
         draft.set_field(line, 0, if random.one_in(2) { n + 1 } else { n - 1 });
     }
@@ -110,7 +110,7 @@ fn change_field_count(random: &mut Random, draft: &mut Draft) {
 fn number_not_rising(random: &mut Random, draft: &mut Draft) {
     let lines = draft.train_lines();
     if let Some(line) = pick_any(random, lines.get(1..).unwrap_or(&[])) {
-        let before = draft.day.trains[line - 4].number;
+        let before = draft.trains[line - 4].number;
         let lower = random.between(1, before);
         draft.set_field(line, 0, random.pick(&[before, lower]));
     }
@@ -119,9 +119,9 @@ fn number_not_rising(random: &mut Random, draft: &mut Draft) {
 /// A train refused by several rules at once, of which 01's order chooses one.
 fn train_broken_twice(random: &mut Random, draft: &mut Draft) {
     let lines = draft.train_lines();
-    let slots = draft.day.slots;
+    let slots = draft.slots;
     if let Some(line) = pick_any(random, lines.get(1..).unwrap_or(&[])) {
-        let before = draft.day.trains[line - 4].number;
+        let before = draft.trains[line - 4].number;
         draft.set_field(line, 0, random.pick(&[before, before, 0, MOST_TRAIN_NUMBER + 1]));
         draft.set_field(line, 1, random.pick(&[slots, slots, slots, slots + 1]));
         draft.set_field(line, 2, random.pick(&[1, 1, 1, 0]));
@@ -133,7 +133,7 @@ fn train_broken_twice(random: &mut Random, draft: &mut Draft) {
 fn move_broken_twice(random: &mut Random, draft: &mut Draft) {
     let lines = draft.move_lines();
     if let Some(line) = pick_any(random, lines.get(1..).unwrap_or(&[])) {
-        let lowest = draft.day.trains[0].number;
+        let lowest = draft.trains[0].number;
         draft.set_field(line, 0, lowest);
         draft.set_field(line, 1, random.pick(&[lowest, lowest, 1, 0]));
         draft.set_field(line, 2, random.pick(&[1, 1, 0, MOST_BOXES + 1]));
@@ -141,8 +141,8 @@ fn move_broken_twice(random: &mut Random, draft: &mut Draft) {
 }
 
 fn first_above_last(random: &mut Random, draft: &mut Draft) {
-    if let (Some(line), true) = (pick_any(random, &draft.train_lines()), draft.day.slots > 1) {
-        let first = random.between(2, draft.day.slots);
+    if let (Some(line), true) = (pick_any(random, &draft.train_lines()), draft.slots > 1) {
+        let first = random.between(2, draft.slots);
         draft.set_field(line, 1, first);
         draft.set_field(line, 2, random.between(1, first - 1));
     }
@@ -159,7 +159,7 @@ fn like(random: &mut Random, number: usize) -> usize {
 
 /// The number of a train that is not there.
 pub fn unlisted_number(random: &mut Random, draft: &Draft) -> usize {
-    let listed: Vec<usize> = draft.day.trains.iter().map(|train| train.number).collect();
+    let listed: Vec<usize> = draft.trains.iter().map(|train| train.number).collect();
     let mut number = 0;
     while !(1..=MOST_TRAIN_NUMBER).contains(&number) || listed.contains(&number) {
         let there = random.pick(&listed);
@@ -179,7 +179,7 @@ fn unlisted_train(random: &mut Random, draft: &mut Draft) {
 /// A train that sends to itself, listed or not.
 fn to_equals_from(random: &mut Random, draft: &mut Draft) {
     if let Some(line) = pick_any(random, &draft.move_lines()) {
-        let listed = draft.day.trains[random.below(draft.day.trains.len())].number;
+        let listed = draft.trains[random.below(draft.trains.len())].number;
         let any = random.between(1, MOST_TRAIN_NUMBER);
         let number = random.pick(&[listed, listed, any]);
         draft.set_field(line, 0, number);

@@ -5,7 +5,7 @@ use crate::day_file::GROUP_NAMES;
 use crate::draft::{pick_any, Draft};
 use crate::draw::Random;
 use crate::model::{MOST_GROUP, MOST_TRAIN_NUMBER};
-use crate::sets::{groups, members};
+use crate::sets::{groups_of, members_of};
 
 /// The names stay, with no row behind them.
 pub fn no_group_rows(_: &mut Random, draft: &mut Draft) {
@@ -79,10 +79,10 @@ pub fn group_beside_limits(random: &mut Random, draft: &mut Draft) {
 
 /// A train of a group in the last group too, or in one behind it.
 pub fn second_group(random: &mut Random, draft: &mut Draft) {
-    let groups = groups(&draft.day);
+    let groups = groups_of(&draft.trains);
     let Some(&last) = groups.last() else { return };
-    let members = members(&draft.day, random.pick(&groups));
-    let number = draft.day.trains[random.pick(&members)].number;
+    let members = members_of(&draft.trains, random.pick(&groups));
+    let number = draft.trains[random.pick(&members)].number;
     let row = format!("{} {number}", random.between(last, MOST_GROUP));
     draft.insert_line(draft.lines.len() - 1, row.as_bytes());
 }
@@ -106,7 +106,7 @@ pub fn group_broken_twice(random: &mut Random, draft: &mut Draft) {
     let lines = draft.group_lines();
     let unlisted = unlisted_number(random, draft);
     if let Some(line) = pick_any(random, &lines) {
-        let before = draft.day.trains.iter().find(|train| train.group > 0);
+        let before = draft.trains.iter().find(|train| train.group > 0);
         let again = before.map_or(unlisted, |train| train.number);
         draft.set_field(line, 1, random.pick(&[unlisted, again, again]));
         let group = random.pick(&[0, MOST_GROUP + 1, MOST_GROUP + 1, MOST_TRAIN_NUMBER]);

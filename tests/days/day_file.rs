@@ -1,8 +1,8 @@
 //! The day file: its names and limits, reading and writing it.
 
 use crate::model::{
-    Boxes, Day, Train, MOST_BOXES, MOST_GROUP, MOST_SLOTS, MOST_TRACKS, MOST_TRAINS,
-    MOST_TRAIN_NUMBER, MOST_WEIGHT,
+    Day, Train, MOST_BOXES, MOST_GROUP, MOST_SLOTS, MOST_TRACKS, MOST_TRAINS, MOST_TRAIN_NUMBER,
+    MOST_WEIGHT,
 };
 use crate::sets::members;
 
@@ -107,22 +107,46 @@ fn value_of(field: &[u8]) -> Option<usize> {
     Some(field.iter().fold(0, |sum, digit| 10 * sum + usize::from(digit - b'0')))
 }
 
+/// What may stand in a day file beside what is the same for all: the limits of
+/// its first row, and the rules for the rows of groups, where it may have groups.
+pub struct Form<'a> {
+    pub head: [Limits; 5],
+    pub groups: Option<&'a GroupRules>,
+}
+
+/// What the rows of a day file say, with the moves by positions: to, from, boxes.
+pub struct Rows {
+    pub head: Vec<usize>,
+    pub trains: Vec<Train>,
+    pub moves: Vec<[usize; 3]>,
+}
+
+pub fn read_rows(text: &[u8], form: &Form) -> Result<Rows, Refusal> {
+    let mut lines = Lines { rest: text, taken: 0 };
+    lines.names(HEAD_NAMES)?;
+    let head = lines.row(&form.head)?;
+    lines.names(TRAIN_NAMES)?;
+    let mut trains = read_trains(&mut lines, head[0], head[2])?;
+    lines.names(MOVE_NAMES)?;
+    let moves = read_moves(&mut lines, &trains, form.groups.is_some())?;
+    if let (false, Some(rules)) = (lines.at_end(), form.groups) {
+        lines.names(GROUP_NAMES)?;
+        read_groups(&mut lines, &mut trains, rules)?;
+    }
+    Ok(Rows { head, trains, moves })
+}
+
 pub fn read_day(text: &[u8]) -> Result<Day, Refusal> {
     read_day_by(text, &GROUP_RULES)
 }
 
 /// With rules of the caller's choice for the rows of groups.
 pub fn read_day_by(text: &[u8], rules: &GroupRules) -> Result<Day, Refusal> {
-    let mut lines = Lines { rest: text, taken: 0 };
-    lines.names(HEAD_NAMES)?;
-    let head = lines.row(&HEAD_LIMITS)?;
-    lines.names(TRAIN_NAMES)?;
-    let mut trains = read_trains(&mut lines, head[0], head[2])?;
-    lines.names(MOVE_NAMES)?;
-    let boxes = read_moves(&mut lines, &trains)?;
-    if !lines.at_end() {
-        lines.names(GROUP_NAMES)?;
-        read_groups(&mut lines, &mut trains, rules)?;
+    let Rows { head, trains, moves } =
+        read_rows(text, &Form { head: HEAD_LIMITS, groups: Some(rules) })?;
+    let mut boxes = [[0; MOST_TRAINS]; MOST_TRAINS];
+    for [to, from, number] in moves {
+        boxes[to][from] = number;
     }
     Ok(Day {
         tracks: head[1],
@@ -150,12 +174,17 @@ fn read_trains(lines: &mut Lines, count: usize, slots: usize) -> Result<Vec<Trai
     Ok(trains)
 }
 
-/// The moves, up to the end of the text or to the names of the groups.
-fn read_moves(lines: &mut Lines, trains: &[Train]) -> Result<Boxes, Refusal> {
+/// The moves, up to the end of the text or, where groups may follow, to their
+/// names; where none may, these names are a row of another form.
+fn read_moves(
+    lines: &mut Lines,
+    trains: &[Train],
+    groups_follow: bool,
+) -> Result<Vec<[usize; 3]>, Refusal> {
     let position = |number: usize| trains.iter().position(|train| train.number == number);
-    let mut boxes = [[0; MOST_TRAINS]; MOST_TRAINS];
+    let mut moves = Vec::new();
     let mut before: Option<(usize, usize)> = None;
-    while !lines.at_end() && !lines.next_is(GROUP_NAMES) {
+    while !lines.at_end() && !(groups_follow && lines.next_is(GROUP_NAMES)) {
         let row = lines.row(&MOVE_LIMITS)?;
         let pair = (row[0], row[1]);
         let (Some(to), Some(from)) = (position(pair.0), position(pair.1)) else {
@@ -167,10 +196,10 @@ fn read_moves(lines: &mut Lines, trains: &[Train]) -> Result<Boxes, Refusal> {
         if before.is_some_and(|before| pair <= before) {
             return lines.refuse(7);
         }
-        boxes[to][from] = row[2];
+        moves.push([to, from, row[2]]);
         before = Some(pair);
     }
-    Ok(boxes)
+    Ok(moves)
 }
 
 /// A row of a group: the group and the train number.
@@ -233,27 +262,37 @@ fn read_groups(
 // ---------------------------------------------------------------------------
 
 /// A day file of a day, its moves and its groups in the order of the pairs.
-/// Positions rise with the train numbers, so the pairs of numbers rise with the
-/// positions.
 pub fn write_day(day: &Day) -> Vec<u8> {
-    let n = day.trains.len();
-    let weights = format!("{} {}", day.revisit_weight, day.split_weight);
-    let mut text = format!("{HEAD_NAMES}\n{n} {} {} {weights}\n", day.tracks, day.slots);
+    let head = [day.tracks, day.slots, day.revisit_weight, day.split_weight];
+    let text = write_rows(head, &day.trains, |to, from| day.boxes[to][from]);
+    (text + &write_groups(day)).into_bytes()
+}
+
+/// The three sections that each day file has: tracks, slots and weights, the
+/// trains, and the boxes by positions. Positions rise with the train numbers, so
+/// the pairs of numbers rise with the positions.
+pub fn write_rows(
+    [tracks, slots, revisit_weight, split_weight]: [usize; 4],
+    trains: &[Train],
+    boxes: impl Fn(usize, usize) -> usize,
+) -> String {
+    let n = trains.len();
+    let weights = format!("{revisit_weight} {split_weight}");
+    let mut text = format!("{HEAD_NAMES}\n{n} {tracks} {slots} {weights}\n");
     text += &format!("{TRAIN_NAMES}\n");
-    for Train { number, first, last, .. } in &day.trains {
+    for Train { number, first, last, .. } in trains {
         text += &format!("{number} {first} {last}\n");
     }
     text += &format!("{MOVE_NAMES}\n");
     for i in 0..n {
         for j in 0..n {
-            if day.boxes[i][j] > 0 {
-                let (to, from) = (day.trains[i].number, day.trains[j].number);
-                text += &format!("{to} {from} {}\n", day.boxes[i][j]);
+            if boxes(i, j) > 0 {
+                let (to, from) = (trains[i].number, trains[j].number);
+                text += &format!("{to} {from} {}\n", boxes(i, j));
             }
         }
     }
-    text += &write_groups(day);
-    text.into_bytes()
+    text
 }
 
 /// The section of the groups; nothing where there are none.

@@ -1,22 +1,34 @@
 //! The draft of a damaged text, and damages to its bytes and lines.
 
-use crate::day_file::{train_limits, write_day, GROUP_LIMITS, HEAD_LIMITS, MOVE_LIMITS};
+use crate::day_file::{train_limits, write_day, Limits, GROUP_LIMITS, HEAD_LIMITS, MOVE_LIMITS};
 use crate::draw::Random;
-use crate::model::Day;
-use crate::sets::has_groups;
+use crate::long_day::{write_long, LongDay, LONG_LIMITS};
+use crate::model::{Day, Train};
 
 /// The text of a sound day on its way to a damaged one. The pieces between the
 /// bytes 10 are kept, so the last piece is what follows the last byte 10.
 pub struct Draft {
-    pub day: Day,
+    pub trains: Vec<Train>,
+    pub slots: usize,
+    /// How many rows the sound day has of moves.
+    moves: usize,
+    /// The limits of the first row.
+    head: [Limits; 5],
     pub lines: Vec<Vec<u8>>,
 }
 
 impl Draft {
     pub fn new(day: Day) -> Draft {
-        let mut draft = Draft { lines: Vec::new(), day };
-        draft.set_text(&write_day(&draft.day));
-        draft
+        let moves = day.boxes.iter().flatten().filter(|&&boxes| boxes > 0).count();
+        let (text, trains, slots) = (write_day(&day), day.trains, day.slots);
+        Draft { trains, slots, moves, head: HEAD_LIMITS, lines: split(&text) }
+    }
+
+    /// Of a long day, whose limits are others.
+    pub fn long(day: &LongDay) -> Draft {
+        let moves = day.boxes.iter().flatten().filter(|&&boxes| boxes > 0).count();
+        let (trains, slots) = (day.trains.clone(), day.slots);
+        Draft { trains, slots, moves, head: LONG_LIMITS, lines: split(&write_long(day)) }
     }
 
     pub fn text(&self) -> Vec<u8> {
@@ -24,7 +36,7 @@ impl Draft {
     }
 
     fn set_text(&mut self, text: &[u8]) {
-        self.lines = text.split(|&byte| byte == b'\n').map(<[u8]>::to_vec).collect();
+        self.lines = split(text);
     }
 
     /// The lines in low..high that are still there after a first damage.
@@ -37,12 +49,12 @@ impl Draft {
     }
 
     pub fn train_lines(&self) -> Vec<usize> {
-        self.present(3, 3 + self.day.trains.len())
+        self.present(3, 3 + self.trains.len())
     }
 
     /// The line of the third names.
     pub fn move_names(&self) -> usize {
-        3 + self.day.trains.len()
+        3 + self.trains.len()
     }
 
     pub fn move_lines(&self) -> Vec<usize> {
@@ -51,9 +63,8 @@ impl Draft {
 
     /// The line of the fourth names, or one that is never there.
     pub fn group_names(&self) -> usize {
-        let moves = self.day.boxes.iter().flatten().filter(|&&boxes| boxes > 0).count();
-        match has_groups(&self.day) {
-            true => self.move_names() + 1 + moves,
+        match self.trains.iter().any(|train| train.group > 0) {
+            true => self.move_names() + 1 + self.moves,
             false => usize::MAX - 1,
         }
     }
@@ -85,6 +96,11 @@ impl Draft {
     }
 }
 
+/// The pieces of a text between its bytes 10.
+fn split(text: &[u8]) -> Vec<Vec<u8>> {
+    text.split(|&byte| byte == b'\n').map(<[u8]>::to_vec).collect()
+}
+
 /// One of the items, if there are any.
 pub fn pick_any(random: &mut Random, items: &[usize]) -> Option<usize> {
     (!items.is_empty()).then(|| random.pick(items))
@@ -100,8 +116,8 @@ pub fn pick_row(random: &mut Random, draft: &Draft) -> Option<usize> {
 /// The greatest value of each field of a line, by its place.
 pub fn greatest_values(draft: &Draft, line: usize) -> Vec<usize> {
     let limits = match line {
-        1 => HEAD_LIMITS.to_vec(),
-        _ if draft.train_lines().contains(&line) => train_limits(draft.day.slots).to_vec(),
+        1 => draft.head.to_vec(),
+        _ if draft.train_lines().contains(&line) => train_limits(draft.slots).to_vec(),
         _ if draft.group_lines().contains(&line) => GROUP_LIMITS.to_vec(),
         _ => MOVE_LIMITS.to_vec(),
     };

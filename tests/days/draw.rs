@@ -247,7 +247,7 @@ fn draw_number(random: &mut Random) -> usize {
 
 /// Rising train numbers over the whole range, its two ends often among them,
 /// or numbers whose low eight or sixteen bits are the same.
-fn draw_numbers(random: &mut Random, n: usize) -> Vec<usize> {
+pub fn draw_numbers(random: &mut Random, n: usize) -> Vec<usize> {
     let apart = |start: usize, step: usize| (0..n).map(move |k| start + k * step);
     let mut numbers: BTreeSet<usize> = match random.below(7) {
         0 => (1..=n).collect(),
@@ -285,7 +285,7 @@ fn draw_boxes(random: &mut Random, n: usize) -> Boxes {
     boxes
 }
 
-fn draw_weight(random: &mut Random) -> usize {
+pub fn draw_weight(random: &mut Random) -> usize {
     let (small, any) = (random.between(2, 100), random.between(0, MOST_WEIGHT));
     random.pick(&[0, 0, 1, 1, MOST_WEIGHT, small, small, any])
 }

@@ -3,6 +3,7 @@
 
 use crate::draw::Random;
 use crate::groups::{Tests, MOST_DIFFERENCES};
+use crate::model::MOST_BYTES_READ;
 use crate::process::{compare_file, Feed};
 use crate::special::{line_end_texts, long_texts, special_texts, tiny_texts};
 use crate::texts::{
@@ -21,7 +22,7 @@ fn group(tests: &mut Tests, name: &'static str, texts: impl IntoIterator<Item = 
 }
 
 /// The text in two to seven pieces, cut anywhere.
-fn draw_pieces(random: &mut Random, text: &[u8]) -> Vec<Vec<u8>> {
+pub fn draw_pieces(random: &mut Random, text: &[u8]) -> Vec<Vec<u8>> {
     let mut cuts = vec![0, text.len()];
     for _ in 0..random.between(1, 6) {
         cuts.push(random.below(text.len() + 1));
@@ -45,8 +46,9 @@ fn file_group(tests: &mut Tests) {
     let program = tests.program;
     for (name, text) in [tiny_texts(), line_end_texts(), long_texts()].concat() {
         let stored = fs::write(&path, &text).map_err(|error| error.to_string());
-        let compare =
-            |expected: &[u8]| stored.and_then(|()| compare_file(program, &path, expected));
+        let compare = |expected: &[u8]| {
+            stored.and_then(|()| compare_file(program, &path, expected, MOST_BYTES_READ))
+        };
         tests.judge(&name, &text, compare);
     }
     // Left behind it would do no harm.

@@ -79,6 +79,12 @@ impl<'a> Tests<'a> {
         }
     }
 
+    /// What another count has seen, counted here as well.
+    pub fn add(&mut self, other: &Tests) {
+        self.passed += other.passed;
+        self.failed += other.failed;
+    }
+
     pub fn fail(&mut self, what: &str) {
         self.failed += 1;
         println!("difference {}: {what}", self.failed);

@@ -43,6 +43,13 @@ pub const MOST_TRAINS: usize = defined("\n#define YARD_MOST_TRAINS ");
 pub const COST_WORDS: usize = defined("\n#define YARD_COST_WORDS ");
 pub const CHOICE_WORDS: usize = defined("\n#define YARD_CHOICE_WORDS ");
 
+pub const LONG_MOST_TRAINS: usize = defined("\n#define YARD_LONG_MOST_TRAINS ");
+pub const LONG_DAY_BYTES: usize = defined("\n#define YARD_LONG_DAY_BYTES ");
+pub const LONG_ANSWER_BYTES: usize = defined("\n#define YARD_LONG_ANSWER_BYTES ");
+pub const LONG_NUMBERS: usize = defined("\n#define YARD_LONG_NUMBERS ");
+pub const LONG_WIDTH: usize = defined("\n#define YARD_LONG_WIDTH ");
+pub const LONG_MOST_WIDTH: usize = defined("\n#define YARD_LONG_MOST_WIDTH ");
+
 /// The functions that the header declares, each in one line. A declaration
 /// begins a line and ends with a semicolon.
 pub fn prototypes() -> Vec<String> {

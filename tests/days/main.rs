@@ -113,8 +113,28 @@ mod known_sets;
 mod known_ties;
 mod lent;
 mod library;
+mod long_beam;
+mod long_calls;
+mod long_case;
+mod long_day;
+mod long_draw;
+#[cfg(long_standin)]
+mod long_exports;
+mod long_fast;
+mod long_functions;
+mod long_known;
+mod long_plan;
+mod long_rows;
+mod long_run;
+mod long_special;
+mod long_standin;
+mod long_texts;
+mod long_trials;
+mod long_wider;
 mod miscountings;
 mod misjudgings;
+mod mislong_calls;
+mod mislong_search;
 mod mismoving;
 mod mismoving_checks;
 mod mismoving_edits;
@@ -155,6 +175,7 @@ mod self_calls;
 mod self_check;
 mod self_direct;
 mod self_fewest;
+mod self_long;
 mod self_moving;
 mod self_search;
 mod self_sets;
@@ -176,6 +197,10 @@ use crate::calls::calls;
 use crate::fewest_run::fewest_of_all;
 use crate::generated::generated;
 use crate::groups::Tests;
+use crate::long_day::LONG_BYTES_READ;
+use crate::long_plan::expected_long;
+use crate::long_run::long;
+use crate::long_wider::wider;
 use crate::model::MOST_BYTES_READ;
 use crate::moving::moving;
 use crate::plan::expected;
@@ -194,38 +219,61 @@ use std::process::ExitCode;
 // Mode: examples
 // ---------------------------------------------------------------------------
 
-/// The stems of the files in a directory that end in `.extension`.
-fn stems(directory: &Path, extension: &str) -> io::Result<BTreeSet<PathBuf>> {
-    let mut stems = BTreeSet::new();
-    for entry in fs::read_dir(directory)? {
-        let path = entry?.path();
-        if path.extension().is_some_and(|found| found == extension) {
-            stems.insert(path.with_extension(""));
-        }
-    }
-    Ok(stems)
+/// A program with stored days: whose names begin in this way or don't, what it has
+/// to print, and how many bytes it reads at most.
+#[derive(Clone, Copy)]
+struct Stored {
+    long: bool,
+    expected: fn(&[u8]) -> Vec<u8>,
+    most_read: usize,
 }
 
-/// The stored output has to be both what 01 says and what the program prints.
-fn compare_example(program: &str, stem: &Path) -> Result<(), String> {
+const USUAL: Stored = Stored { long: false, expected, most_read: MOST_BYTES_READ };
+const LONG: Stored = Stored { long: true, expected: expected_long, most_read: LONG_BYTES_READ };
+
+/// Days of yard-long have names that begin so.
+const LONG_NAME: &str = "long-";
+
+impl Stored {
+    fn holds(&self, path: &Path) -> bool {
+        let name = path.file_name().unwrap_or_default().to_string_lossy();
+        name.starts_with(LONG_NAME) == self.long
+    }
+
+    /// The stems of its files in a directory that end in `.extension`.
+    fn stems(&self, directory: &Path, extension: &str) -> io::Result<BTreeSet<PathBuf>> {
+        let mut stems = BTreeSet::new();
+        for entry in fs::read_dir(directory)? {
+            let path = entry?.path();
+            let fits = path.extension().is_some_and(|found| found == extension);
+            if fits && self.holds(&path) {
+                stems.insert(path.with_extension(""));
+            }
+        }
+        Ok(stems)
+    }
+}
+
+/// The stored output has to be both what the papers say and what the program prints.
+fn compare_example(program: &str, stored_for: Stored, stem: &Path) -> Result<(), String> {
     let complain = |error: io::Error| error.to_string();
     let day = stem.with_extension("day");
     let text = fs::read(&day).map_err(complain)?;
     let stored = fs::read(stem.with_extension("out")).map_err(complain)?;
-    let expected = expected(&text);
+    let expected = (stored_for.expected)(&text);
     if stored != expected {
         let (stored, expected) = (escaped(&stored), escaped(&expected));
         return Err(format!("stored \"{stored}\"\n  expected \"{expected}\""));
     }
-    compare_file(program, &day, &expected)
+    compare_file(program, &day, &expected, stored_for.most_read)
         .map_err(|got| format!("expected \"{}\"\n  got {got}", escaped(&expected)))
 }
 
-fn examples(program: &str, directory: &Path) -> bool {
+fn examples(program: &str, stored: Stored, directory: &Path) -> bool {
     let mut tests = Tests::new(program);
     // A directory that cannot be read holds no days, which is a failure below.
-    let days = stems(directory, "day").unwrap_or_default();
-    let outputs = stems(directory, "out").unwrap_or_default();
+    let days = stored.stems(directory, "day").unwrap_or_default();
+    let outputs = stored.stems(directory, "out").unwrap_or_default();
     if days.is_empty() {
         tests.fail(&format!("no days in {}", directory.display()));
     }
@@ -233,7 +281,7 @@ fn examples(program: &str, directory: &Path) -> bool {
         tests.fail(&format!("{}: day or output missing", stem.display()));
     }
     for stem in days.intersection(&outputs) {
-        match compare_example(program, stem) {
+        match compare_example(program, stored, stem) {
             Ok(()) => tests.passed += 1,
             Err(what) => tests.fail(&format!("{}\n  {what}", stem.display())),
         }
@@ -245,21 +293,23 @@ fn examples(program: &str, directory: &Path) -> bool {
 // The program
 // ---------------------------------------------------------------------------
 
-/// Prints what yard-plan has to print, and like it reads no byte beyond the
+/// Prints what the program has to print, and like it reads no byte beyond the
 /// limit: the standard input is read past the library's buffer.
-fn expect() -> io::Result<()> {
+fn expect(stored: Stored) -> io::Result<()> {
     let input = File::from(io::stdin().as_fd().try_clone_to_owned()?);
     let mut text = Vec::new();
-    input.take(MOST_BYTES_READ as u64).read_to_end(&mut text)?;
-    io::stdout().write_all(&expected(&text))
+    input.take(stored.most_read as u64).read_to_end(&mut text)?;
+    io::stdout().write_all(&(stored.expected)(&text))
 }
 
 fn main() -> ExitCode {
     let arguments: Vec<String> = std::env::args().skip(1).collect();
     let arguments: Vec<&str> = arguments.iter().map(String::as_str).collect();
     let good = match arguments[..] {
-        ["expect"] => expect().is_ok(),
-        ["examples", program, directory] => examples(program, Path::new(directory)),
+        ["expect"] => expect(USUAL).is_ok(),
+        ["long-expect"] => expect(LONG).is_ok(),
+        ["examples", program, directory] => examples(program, USUAL, Path::new(directory)),
+        ["long-examples", program, directory] => examples(program, LONG, Path::new(directory)),
         ["generated", program] => generated(program),
         ["baselines"] => baselines(),
         ["calls"] => calls(),
@@ -267,11 +317,14 @@ fn main() -> ExitCode {
         ["fewest", program] => fewest_of_all(program),
         ["weights", tool] => weights(tool),
         ["below"] => below(),
+        ["long", program] => long(program),
+        ["wider"] => wider(),
         ["stack", name] => little_stack(name),
         ["self"] => check_self(),
         _ => {
             let modes = "expect | examples PROGRAM DIR | generated PROGRAM | baselines | calls | \
-                         moving | fewest PROGRAM | weights TOOL | below | self";
+                         moving | fewest PROGRAM | weights TOOL | below | long PROGRAM | \
+                         long-expect | long-examples PROGRAM DIR | wider | self";
             eprintln!("usage: days {modes}");
             return ExitCode::from(2);
         }

@@ -13,7 +13,7 @@ use crate::sets::{has_groups, keeps_groups, singly, ungrouped, units};
 
 #[derive(Clone, Debug, PartialEq)]
 pub struct Plan {
-    numbers: Vec<usize>,
+    pub numbers: Vec<usize>,
     pub assignment: Vec<usize>,
     pub value: Value,
 }

@@ -1,6 +1,5 @@
 //! Running the program under test and comparing its output.
 
-use crate::model::MOST_BYTES_READ;
 use std::fmt;
 use std::fs::File;
 use std::io::{self, Read, Seek, Write};
@@ -117,14 +116,19 @@ pub fn compare(program: &str, feed: Feed, expected: &[u8]) -> Result<(), String>
 }
 
 /// From a file the program could read on as far as it likes. It shares its
-/// place in the file with us, which shows how much it has read.
-pub fn compare_file(program: &str, path: &Path, expected: &[u8]) -> Result<(), String> {
+/// place in the file with us, which shows how much it has read: no more than `most`.
+pub fn compare_file(
+    program: &str,
+    path: &Path,
+    expected: &[u8],
+    most: usize,
+) -> Result<(), String> {
     let complain = |error: io::Error| format!("{}: {error}", path.display());
     let mut file = File::open(path).map_err(complain)?;
     let shared = file.try_clone().map_err(complain)?;
     compare(program, Feed::File(shared), expected)?;
     match file.stream_position().map_err(complain)? {
-        place if place <= MOST_BYTES_READ as u64 => Ok(()),
+        place if place <= most as u64 => Ok(()),
         place => Err(format!("the right output, but {place} bytes were read")),
     }
 }

@@ -17,6 +17,7 @@ use crate::self_baselines::check_baselines;
 use crate::self_calls::check_calls;
 use crate::self_direct::check_direct;
 use crate::self_fewest::check_fewest;
+use crate::self_long::check_long;
 use crate::self_moving::check_moving;
 use crate::self_search::check_search;
 use crate::self_sets::check_sets;
@@ -181,5 +182,6 @@ pub fn check_self() -> bool {
     check_direct(&mut tests);
     check_moving(&mut tests);
     check_fewest(&mut tests);
+    check_long(&mut tests);
     tests.finish()
 }

@@ -1,16 +1,24 @@
 //! The groups of trains of order 4 (document 02): in a plan all members share
 //! one slot.
 
-use crate::model::{Day, MOST_GROUP};
+use crate::model::{Day, Train, MOST_GROUP};
 
 /// The positions of a group's trains, counted from 0 here.
 pub fn members(day: &Day, group: usize) -> Vec<usize> {
-    (0..day.trains.len()).filter(|&k| day.trains[k].group == group).collect()
+    members_of(&day.trains, group)
+}
+
+pub fn members_of(trains: &[Train], group: usize) -> Vec<usize> {
+    (0..trains.len()).filter(|&k| trains[k].group == group).collect()
 }
 
 /// The numbers of the groups that have members, rising.
 pub fn groups(day: &Day) -> Vec<usize> {
-    (1..=MOST_GROUP).filter(|&group| !members(day, group).is_empty()).collect()
+    groups_of(&day.trains)
+}
+
+pub fn groups_of(trains: &[Train]) -> Vec<usize> {
+    (1..=MOST_GROUP).filter(|&group| !members_of(trains, group).is_empty()).collect()
 }
 
 pub fn has_groups(day: &Day) -> bool {

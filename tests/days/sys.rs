@@ -3,7 +3,7 @@
 /// The prototypes without their result, `uint64_t`, as this module was written
 /// from them. Mode calls compares them with the header's, so that the header
 /// promises no function, and no order of arguments, that isn't called here.
-pub const PROTOTYPES: [&str; 13] = [
+pub const PROTOTYPES: [&str; 17] = [
     "yard_version(void)",
     "yard_answer(const uint8_t *text, size_t text_length, uint8_t *out, size_t out_length, \
      size_t *bytes)",
@@ -38,6 +38,13 @@ pub const PROTOTYPES: [&str; 13] = [
      uint64_t *cost, size_t cost_length, uint16_t *choice, size_t choice_length, uint8_t *day, \
      size_t day_length, uint8_t *next, size_t next_length, uint64_t *numbers, \
      size_t numbers_length)",
+    "yard_long_answer(const uint8_t *text, size_t text_length, uint8_t *out, size_t out_length, \
+     size_t *bytes)",
+    "yard_long_plan(const uint8_t *text, size_t text_length, uint32_t width, uint8_t *row, \
+     size_t row_length, uint64_t *numbers, size_t numbers_length, size_t *trains)",
+    "yard_long_check(const uint8_t *text, size_t text_length, uint64_t *line)",
+    "yard_long_value(const uint8_t *text, size_t text_length, const uint8_t *row, \
+     size_t row_length, uint64_t *numbers, size_t numbers_length)",
 ];
 
 #[link(name = "yard", kind = "static")]
@@ -171,6 +178,42 @@ extern "C" {
         day_length: usize,
         next: *mut u8,
         next_length: usize,
+        numbers: *mut u64,
+        numbers_length: usize,
+    ) -> u64;
+}
+
+/// Built with `--cfg long_standin` this program brings the functions of long days
+/// along, for a library that hasn't them.
+#[cfg(long_standin)]
+pub use crate::long_exports::{yard_long_answer, yard_long_check, yard_long_plan, yard_long_value};
+
+#[cfg(not(long_standin))]
+#[link(name = "yard", kind = "static")]
+extern "C" {
+    pub fn yard_long_answer(
+        text: *const u8,
+        text_length: usize,
+        out: *mut u8,
+        out_length: usize,
+        bytes: *mut usize,
+    ) -> u64;
+    pub fn yard_long_plan(
+        text: *const u8,
+        text_length: usize,
+        width: u32,
+        row: *mut u8,
+        row_length: usize,
+        numbers: *mut u64,
+        numbers_length: usize,
+        trains: *mut usize,
+    ) -> u64;
+    pub fn yard_long_check(text: *const u8, text_length: usize, line: *mut u64) -> u64;
+    pub fn yard_long_value(
+        text: *const u8,
+        text_length: usize,
+        row: *const u8,
+        row_length: usize,
         numbers: *mut u64,
         numbers_length: usize,
     ) -> u64;

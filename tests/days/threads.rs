@@ -52,7 +52,7 @@ pub fn compare_at_once(tests: &mut Tests) {
 }
 
 /// Runs this in each of several threads.
-fn at_once(tests: &mut Tests, run: impl Fn(usize) -> Result<(), String> + Sync) {
+pub fn at_once(tests: &mut Tests, run: impl Fn(usize) -> Result<(), String> + Sync) {
     let run = &run;
     thread::scope(|scope| {
         let spawn = |index| scope.spawn(move || run(index));
