@@ -100,7 +100,7 @@ impl Question {
 }
 
 /// All lists of this length with each item from 0 up to, but without, `count`.
-fn each_list(length: usize, count: usize, visit: &mut dyn FnMut(&[usize])) {
+pub fn each_list(length: usize, count: usize, visit: &mut dyn FnMut(&[usize])) {
     for index in 0..count.pow(length as u32) {
         let list: Vec<usize> =
             (0..length).map(|place| index / count.pow(place as u32) % count).collect();

@@ -113,7 +113,10 @@ fn draw_level(random: &mut Random) -> LongDay {
         if random.one_in(3) { open(n, slots) } else { planted(random, &homes, slots, reach) };
     if random.one_in(2) {
         // Some come later, and all can stay.
-        windows.iter_mut().for_each(|window| window.last = slots);
+        for window in &mut windows {
+            let late = random.between(1, slots);
+            (window.first, window.last) = (random.pick(&[1, 1, window.first, late]), slots);
+        }
     }
     let mut day = day_of(random, tracks, slots, windows);
     let chance = random.pick(&[0, 0, 10, 20, 30]);

@@ -49,7 +49,7 @@ const P11_MOVES: &[&str] = &["1 2 1", "2 1 1"];
 /// 2 and both cost 0, 2, 2 and 0 after slot 1. P13: after slot 1 the trains cost 2, 0
 /// and 0; nobody is discarded, since three trains don't fit two places.
 #[rustfmt::skip]
-pub const KNOWN_LONG: [KnownLong; 34] = [
+pub const KNOWN_LONG: [KnownLong; 35] = [
     known("one train, two slots: the empty beginning has the smaller sum", "1 1 2 1 1", &["1 1 2"], &[],
         &[(1, Row(&[2], [0, 0, 0, 0, 1, 0])), (2, Row(&[1], [0, 0, 0, 0, 0, 0])), (64, Row(&[1], [0, 0, 0, 0, 0, 0])),
           (0, Refused(21, [0; 3])), (65, Refused(21, [0; 3])), (u32::MAX, Refused(21, [0; 3]))]),
@@ -116,6 +116,10 @@ pub const KNOWN_LONG: [KnownLong; 34] = [
         &[(1, Row(&[1, 1, 1], [0, 0, 13, 0, 0, 0]))]),
     known("four tracks", "4 4 2 1 1", &["1 1 2", "2 1 2", "3 1 2", "4 1 2"], &["1 2 1", "2 3 1", "3 4 1", "4 1 1"],
         &[(1, Row(&[2, 2, 2, 2], [0, 0, 4, 0, 1, 0])), (2, Row(&[1, 1, 1, 1], [0, 0, 4, 0, 1, 0])), (16, Row(&[1, 1, 1, 1], [0, 0, 4, 0, 0, 0]))]),
+    // At width 2 the train that supplies goes first and alone, for its sum is the second smallest; at
+    // width 1 the empty beginning leaves trains 3 and 4 together, and at width 3 train 2 goes first.
+    known("a greater width costs more", "4 2 3 0 1", &["1 1 3", "2 1 3", "3 1 3", "4 1 3"], &["4 3 1"],
+        &[(1, Row(&[3, 3, 2, 2], [0, 0, 1, 0, 2, 0])), (2, Row(&[3, 2, 1, 3], [0, 1, 0, 1, 2, 0])), (3, Row(&[2, 1, 3, 3], [0, 0, 1, 0, 2, 0]))]),
     known("twelve slots", "1 1 12 1 1", &["99999 1 12"], &[],
         &[(1, Row(&[12], [0, 0, 0, 0, 11, 0])), (2, Row(&[1], [0, 0, 0, 0, 0, 0]))]),
     known("five tracks", "1 5 1 1 1", &["1 1 1"], &[], &[(1, Refused(3, [2, 0, 0])), (0, Refused(3, [2, 0, 0]))]),

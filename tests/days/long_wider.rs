@@ -1,13 +1,16 @@
 //! Mode wider: a search, no test. Is there a day on which a greater width costs more
-//! than a smaller one? Order 9 doesn't say that there is none. Small days are drawn,
-//! and those that are found are made smaller as long as they stay ones.
+//! than a smaller one? Order 9 doesn't say that there is none. The smallest days are
+//! gone through one by one; others are drawn, and those that are found are made
+//! smaller as long as they stay ones.
 
+use crate::below::each_list;
 use crate::draw::Random;
 use crate::long_beam::search;
 use crate::long_day::{write_long, LongDay};
 use crate::long_draw::draw_small;
 use crate::long_fast::search_fast;
 use crate::long_plan::told;
+use crate::model::Train;
 use crate::plan::broken;
 
 const DAYS: u64 = 60_000;
@@ -143,8 +146,48 @@ fn print(day: &LongDay) {
     println!("  costs from width 1 on: {:?}", costs(day));
 }
 
+/// All days of so many trains with at most so many slots, two tracks, one box for a
+/// pair and small weights.
+fn each_day(n: usize, most_slots: usize, visit: &mut dyn FnMut(&LongDay)) {
+    for slots in 1..=most_slots {
+        let windows = (1..=slots).flat_map(|first| (first..=slots).map(move |last| (first, last)));
+        let windows: Vec<(usize, usize)> = windows.collect();
+        each_list(n, windows.len(), &mut |list| {
+            let train = |(number, &window): (usize, &usize)| {
+                let (first, last) = windows[window];
+                Train { number, first, last, group: 0 }
+            };
+            let trains: Vec<Train> = (1..).zip(list).map(train).collect();
+            each_list(n * (n - 1), 2, &mut |pairs| {
+                let mut boxes = vec![vec![0; n]; n];
+                for (place, &number) in pairs.iter().enumerate() {
+                    let (to, from) = (place / (n - 1), place % (n - 1));
+                    boxes[to][from + usize::from(from >= to)] = number;
+                }
+                for (tracks, weights) in [1, 2].iter().flat_map(|&g| WEIGHTS.map(|w| (g, w))) {
+                    let (revisit_weight, split_weight) = weights;
+                    let (trains, boxes) = (trains.clone(), boxes.clone());
+                    let day =
+                        LongDay { tracks, slots, revisit_weight, split_weight, trains, boxes };
+                    visit(&day);
+                }
+            });
+        });
+    }
+}
+
+const WEIGHTS: [(usize, usize); 4] = [(0, 1), (1, 0), (1, 1), (2, 1)];
+
 pub fn wider() -> bool {
     let (mut found, mut smallest) = (0, None::<LongDay>);
+    for (n, slots) in [(2, 5), (3, 4)] {
+        let (mut days, mut dearer) = (0, 0);
+        each_day(n, slots, &mut |day| {
+            days += 1;
+            dearer += usize::from(pair(day).is_some());
+        });
+        println!("{n} trains, up to {slots} slots, a box at most: {dearer} of all {days} days");
+    }
     for seed in SEED..SEED + DAYS {
         let day = draw_small(&mut Random(seed));
         if pair(&day).is_none() {

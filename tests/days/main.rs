@@ -197,7 +197,8 @@ use crate::calls::calls;
 use crate::fewest_run::fewest_of_all;
 use crate::generated::generated;
 use crate::groups::Tests;
-use crate::long_day::LONG_BYTES_READ;
+use crate::long_case::{plan_reply, Asked, LongCase, Reply, LONG_NUMBERS};
+use crate::long_day::{LONG_BYTES_READ, LONG_TRAINS};
 use crate::long_plan::expected_long;
 use crate::long_run::long;
 use crate::long_wider::wider;
@@ -302,12 +303,25 @@ fn expect(stored: Stored) -> io::Result<()> {
     io::stdout().write_all(&(stored.expected)(&text))
 }
 
+/// Prints what yard_long_plan has to give for a text and a width: what it returns,
+/// its six numbers, and the row.
+fn expect_at(width: &str) -> io::Result<()> {
+    let mut text = Vec::new();
+    io::stdin().read_to_end(&mut text)?;
+    let width = width.parse().map_err(io::Error::other)?;
+    let asked = Asked { width, row: LONG_TRAINS, numbers: LONG_NUMBERS };
+    let Reply { refusal, numbers, slots } = plan_reply(&LongCase::new(0, &text), &asked);
+    println!("{refusal}\n{numbers:?}\n{slots:?}");
+    Ok(())
+}
+
 fn main() -> ExitCode {
     let arguments: Vec<String> = std::env::args().skip(1).collect();
     let arguments: Vec<&str> = arguments.iter().map(String::as_str).collect();
     let good = match arguments[..] {
         ["expect"] => expect(USUAL).is_ok(),
         ["long-expect"] => expect(LONG).is_ok(),
+        ["long-expect", width] => expect_at(width).is_ok(),
         ["examples", program, directory] => examples(program, USUAL, Path::new(directory)),
         ["long-examples", program, directory] => examples(program, LONG, Path::new(directory)),
         ["generated", program] => generated(program),
@@ -324,7 +338,7 @@ fn main() -> ExitCode {
         _ => {
             let modes = "expect | examples PROGRAM DIR | generated PROGRAM | baselines | calls | \
                          moving | fewest PROGRAM | weights TOOL | below | long PROGRAM | \
-                         long-expect | long-examples PROGRAM DIR | wider | self";
+                         long-expect [WIDTH] | long-examples PROGRAM DIR | wider | self";
             eprintln!("usage: days {modes}");
             return ExitCode::from(2);
         }
