@@ -49,7 +49,7 @@ const P11_MOVES: &[&str] = &["1 2 1", "2 1 1"];
 /// 2 and both cost 0, 2, 2 and 0 after slot 1. P13: after slot 1 the trains cost 2, 0
 /// and 0; nobody is discarded, since three trains don't fit two places.
 #[rustfmt::skip]
-pub const KNOWN_LONG: [KnownLong; 35] = [
+pub const KNOWN_LONG: [KnownLong; 39] = [
     known("one train, two slots: the empty beginning has the smaller sum", "1 1 2 1 1", &["1 1 2"], &[],
         &[(1, Row(&[2], [0, 0, 0, 0, 1, 0])), (2, Row(&[1], [0, 0, 0, 0, 0, 0])), (64, Row(&[1], [0, 0, 0, 0, 0, 0])),
           (0, Refused(21, [0; 3])), (65, Refused(21, [0; 3])), (u32::MAX, Refused(21, [0; 3]))]),
@@ -120,6 +120,18 @@ pub const KNOWN_LONG: [KnownLong; 35] = [
     // width 1 the empty beginning leaves trains 3 and 4 together, and at width 3 train 2 goes first.
     known("a greater width costs more", "4 2 3 0 1", &["1 1 3", "2 1 3", "3 1 3", "4 1 3"], &["4 3 1"],
         &[(1, Row(&[3, 3, 2, 2], [0, 0, 1, 0, 2, 0])), (2, Row(&[3, 2, 1, 3], [0, 1, 0, 1, 2, 0])), (3, Row(&[2, 1, 3, 3], [0, 0, 1, 0, 2, 0]))]),
+    // After slot 3 trains 1 and 2 (sum 2) stay beside nobody, and not train 3 (sum 3).
+    known("two trains before one, by the sum", "3 2 5 1 1", &["1 1 5", "2 1 5", "3 3 5"], &["1 2 1", "2 1 1"],
+        &[(2, Row(&[1, 1, 5], [0, 0, 2, 0, 4, 0])), (64, Row(&[1, 1, 3], [0, 0, 2, 0, 0, 0]))]),
+    // After slot 2 trains 1 and 2 in slot 1, and train 3 in slot 2, have the same sum.
+    known("set numbers slot by slot, whatever is covered", "3 2 4 1 1", &["1 1 4", "2 1 4", "3 2 4"], &["1 2 1", "2 1 1"],
+        &[(2, Row(&[1, 1, 4], [0, 0, 2, 0, 3, 0])), (64, Row(&[1, 1, 2], [0, 0, 2, 0, 0, 0]))]),
+    // Trains 1 and 3 cost one revisit each in slot 1, though train 3 waits for two suppliers.
+    known("two missing suppliers are one revisit", "3 1 3 1 0", &["1 1 3", "2 2 3", "3 1 3"], &["1 2 1", "3 1 1", "3 2 1"],
+        &[(1, Row(&[3, 2, 1], [1, 3, 0, 1, 2, 0]))]),
+    // 2..2 is overbooked too, and shorter.
+    known("9 has the smallest first slot", "5 1 4 1 1", &["1 1 4", "2 2 2", "3 1 4", "4 2 2", "5 1 4"], &[],
+        &[(1, Refused(9, [1, 4, 5])), (64, Refused(9, [1, 4, 5]))]),
     known("twelve slots", "1 1 12 1 1", &["99999 1 12"], &[],
         &[(1, Row(&[12], [0, 0, 0, 0, 11, 0])), (2, Row(&[1], [0, 0, 0, 0, 0, 0]))]),
     known("five tracks", "1 5 1 1 1", &["1 1 1"], &[], &[(1, Refused(3, [2, 0, 0])), (0, Refused(3, [2, 0, 0]))]),

@@ -41,8 +41,20 @@
 //! write (weights_texts.rs). Mode self has planners, enumerations and tools that
 //! make mistakes (misweighings.rs, mismoving_fewest.rs, misrewritings.rs).
 //!
+//! Long days (order 9 of 02) have a model of their own with other limits
+//! (long_day.rs) and two beam searches: long_beam.rs goes by the words of the order
+//! and of section 4.3 of source 000, with partial plans as rows that have gaps;
+//! long_fast.rs finds the same for days of 36 trains, and is held to the first one on
+//! small days. Mode long draws days (long_draw.rs), damages texts, calls the four
+//! functions in marked memory at widths good and bad (long_calls.rs, long_case.rs),
+//! goes through all rows of small days (long_rows.rs), and runs yard-long.
+//! long_known.rs has days worked out by hand. Mode self has a stand-in of the four
+//! functions (long_standin.rs) make each of a list of mistakes (mislong_search.rs,
+//! mislong_calls.rs). Built with `--cfg long_standin` this program brings the four
+//! functions along (long_exports.rs), for a library that hasn't them yet.
+//!
 //!     days expect < day.txt        prints what yard-plan has to print
-//!     days examples PROGRAM DIR    runs the stored days of DIR
+//!     days examples PROGRAM DIR    runs the stored days of DIR but yard-long's
 //!     days generated PROGRAM       runs known and drawn days and damaged texts
 //!     days baselines               calls the library's two baselines on days
 //!     days calls                   calls the library's other functions on the
@@ -57,6 +69,14 @@
 //!                                  texts that are none
 //!     days below                   looks for days on which a smaller weight does
 //!                                  not suffice; it tests nothing
+//!     days long PROGRAM            long days through the library's functions and
+//!                                  through yard-long
+//!     days long-expect < day.txt   prints what yard-long has to print; with a
+//!                                  width behind it what yard_long_plan has to give
+//!     days long-examples PROGRAM DIR
+//!                                  runs the stored days of DIR that are yard-long's
+//!     days wider                   looks for days on which a greater width costs
+//!                                  more; it tests nothing
 //!     days stack FUNCTION          calls one with little stack, for calls and
 //!                                  moving
 //!     days self                    checks this program on known days, and that
