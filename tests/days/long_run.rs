@@ -392,6 +392,9 @@ fn run_pieces(tests: &mut Tests) {
 fn run_files(tests: &mut Tests) {
     let path = std::env::temp_dir().join(format!("yard-long-days-{}", std::process::id()));
     for (name, text) in [tiny_texts(), long_line_end_texts(), very_long_texts()].concat() {
+        if tests.stopped() {
+            break;
+        }
         let expected = expected_long(&text);
         let stored = fs::write(&path, &text).map_err(|error| error.to_string());
         let program = tests.program;
