@@ -94,6 +94,26 @@ largest-reached (suc k) (suc n) f = go (largest-reached (suc k) n f) (largest-re
     go (p, few, e) one (inl h) = let (c, s) = with false p in (also false p, omega arith, omega arith)
     go all (p, few, e) (inr h) = let (c, s) = with true p in (also true p, omega arith, omega arith)
 
+-- ---- the order's words again: what is left out of a train's boxes is some G - 1 supplies or fewer, and no G - 1 come to more
+
+pub record LessLargest (y : Yard) (i : ℕ) : Type 0 where
+  pub taken : ℕ → Bool
+  pub few : count (y .trains) taken ≤ y .tracks - 1
+  pub is : surelySplit y i ≡ sum (y .trains) (received y i) - sum (y .trains) (λ j. cond (taken j) (received y i j) 0)
+  pub noMore : (others : ℕ → Bool) → count (y .trains) others ≤ y .tracks - 1
+      → sum (y .trains) (λ j. cond (others j) (received y i j) 0) ≤ sum (y .trains) (λ j. cond (taken j) (received y i j) 0)
+
+pub less-largest : (y : Yard) (i : ℕ) → LessLargest y i
+unfolding surelySplit
+less-largest y i =
+    let (p, few, e) = largest-reached (y .tracks - 1) (y .trains) (received y i) in
+    record {
+      taken = p;
+      few = few;
+      is = ap (λ x. sum (y .trains) (received y i) - x) (sym e);
+      noMore = λ others h. omega (arith, e, largest-bound (y .tracks - 1) (y .trains) (received y i) others h);
+    }
+
 -- ---- what holds in every row that fits
 
 -- no train has boxes for itself

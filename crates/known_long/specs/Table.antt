@@ -45,11 +45,12 @@ table =
     finds (openLong 1 1 2 1 1 []) 1 (2 ∷ []) (figures 0 0 0 0) 1 0
     ∷ finds (openLong 1 1 2 1 1 []) 2 (1 ∷ []) (figures 0 0 0 0) 0 0
     ∷ finds (openLong 1 1 1 1 1 []) 1 (1 ∷ []) (figures 0 0 0 0) 0 0
-    -- more width may cost more: a day of one move on which the search at width 1 finds a cheapest row, and at width 2 one that costs 2
-    ∷ finds (openLong 4 2 3 1 1 (move 3 4 2 ∷ [])) 1 (3 ∷ 3 ∷ 2 ∷ 2 ∷ []) (figures 0 0 2 0) 2 0
-    ∷ finds (openLong 4 2 3 1 1 (move 3 4 2 ∷ [])) 2 (3 ∷ 2 ∷ 3 ∷ 1 ∷ []) (figures 0 2 0 2) 2 0
-    ∷ finds (openLong 4 2 3 1 1 (move 3 4 2 ∷ [])) 64 (2 ∷ 2 ∷ 1 ∷ 1 ∷ []) (figures 0 0 2 0) 0 0
-    ∷ best (openLong 4 2 3 1 1 (move 3 4 2 ∷ [])) (2 ∷ 2 ∷ 1 ∷ 1 ∷ []) (figures 0 0 2 0)
+    -- more width may cost more: cost 0 at width 1, 1 at width 2, 0 at width 3; a day without full slots has its best row
+    ∷ finds (openLong 4 2 3 0 1 (move 4 3 1 ∷ [])) 1 (3 ∷ 3 ∷ 2 ∷ 2 ∷ []) (figures 0 0 1 0) 2 0
+    ∷ finds (openLong 4 2 3 0 1 (move 4 3 1 ∷ [])) 2 (3 ∷ 2 ∷ 1 ∷ 3 ∷ []) (figures 0 1 0 1) 2 0
+    ∷ finds (openLong 4 2 3 0 1 (move 4 3 1 ∷ [])) 3 (2 ∷ 1 ∷ 3 ∷ 3 ∷ []) (figures 0 0 1 0) 2 0
+    ∷ finds (openLong 4 2 3 0 1 (move 4 3 1 ∷ [])) 64 (2 ∷ 2 ∷ 1 ∷ 1 ∷ []) (figures 0 0 1 0) 0 0
+    ∷ best (openLong 4 2 3 0 1 (move 4 3 1 ∷ [])) (2 ∷ 2 ∷ 1 ∷ 1 ∷ []) (figures 0 0 1 0)
     -- the source's example at widths 1 to 64, and with weights 0, where nothing but the order decides
     ∷ finds (paperLong 1 1) 1 (2 ∷ 1 ∷ 2 ∷ 1 ∷ []) (figures 1 7 9 8) 1 4
     ∷ finds (paperLong 1 1) 2 (2 ∷ 1 ∷ 2 ∷ 1 ∷ []) (figures 1 7 9 8) 1 4

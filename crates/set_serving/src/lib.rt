@@ -58,7 +58,11 @@ fn try_set(
         return gathered;
     }
     if set_costs::is_discarded(ends, plan[15] - s, j + 1, sizes.slots, sizes.tracks) {
-        return gathered;
+        // not one that remained: it sets no flag
+        return Held {
+            count: gathered.count,
+            dropped: gathered.dropped,
+        };
     }
     offering::offer(
         next,
