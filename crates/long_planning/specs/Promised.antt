@@ -9,7 +9,8 @@
 --   long-best          where the number of full slots is 0 the cost is least, and the plan is the best of all allowed rows in order 5's order.
 -- On any day, at any width and in any row:
 --   long-unsound, long-width, long-short   when 8, 21 and 10 are returned, in this order;
---   long-kept          a refusal leaves every byte of the row.
+--   long-kept          a refusal leaves every byte of the row;
+--   long-beyond        bytes beyond the first n never change.
 -- The laws `found-…` say the same of the search itself, and `long-planned`, `long-row` what the call answers and leaves where its checks hold.
 -- Assumes nothing.
 use mathlib.Core.Path.{_≡_, refl, sym, ap, _∙_, subst}
@@ -225,3 +226,19 @@ long-kept y width row {k} {carries} e = go (holding (longChecks longLimits y wid
     go true h =
         unplaced (beamRow y width)
         (sym (checked-holds (longChecks longLimits y width (length row)) (foundAnswer y width (beamRow y width)) (holding-all (longChecks longLimits y width (length row)) (of-true h))) ∙ e)
+
+pub long-beyond : (y : Yard) (width : ℕ) (row : List ℕ) → drop (y .trains) (longRowAfter longLimits y width row) ≡ drop (y .trains) row
+unfolding longRowAfter
+long-beyond y width row = go (holding (longChecks longLimits y width (length row))) refl
+  where
+    past : T (sound longLimits y) → 1 ≤ width → (o : Option (List ℕ)) → beamRow y width ≡ o → drop (y .trains) (placed o row) ≡ drop (y .trains) row
+    past isSound some-width none e = refl
+    past isSound some-width (some r) e =
+        let long = allowed-is y r (found-allowed y width isSound some-width r e) .long in
+        drop-front r (drop (length r) row) long ∙ ap (λ k. drop k row) long
+
+    go : (b : Bool) → holding (longChecks longLimits y width (length row)) ≡ b → drop (y .trains) (cond b (placed (beamRow y width) row) row) ≡ drop (y .trains) row
+    go false h = refl
+    go true h =
+        let (isSound, (wide, rest)) = holding-all (longChecks longLimits y width (length row)) (of-true h) in
+        past isSound (leb→le 1 width (both-of (leb 1 width) (leb width mostWidth) wide .0)) (beamRow y width) refl

@@ -1,0 +1,3 @@
+pub mod TextLong
+pub mod Laws
+pub mod Means
