@@ -87,8 +87,10 @@ pub fn trimmed(s: u64, tracks: u32) -> u64
     ensures { λ w. ⌜ Trimmed tracks s w × (ones w ≤ tracks) ⌝ }
 {
     let mut w = s;
-    while tracks < u64::count_ones(w) {
+    let mut count = u64::count_ones(s);
+    while tracks < count {
         w = w & (w - 1);
+        count -= 1;
     }
     w
 }
