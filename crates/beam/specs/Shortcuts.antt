@@ -1,46 +1,33 @@
--- What code may use in place of the definitions: the overbooked intervals of the day decide before the search whether it gives a row
--- (`beam-none`, `beam-row`); on a day without one, a set is discarded exactly where for some slot too many of its trains end by it
--- (`discarded-is`); and no partial plan costs more than all revisits and all split moves together (`so-far-bound`).
+-- What code may use in place of the definitions: a day that overbooks an interval has no row that the search could find (`beam-none`); on a
+-- day without one, a set is discarded exactly where for some slot too many of its trains end by it (`discarded-is`).
 -- Assumes nothing.
 use mathlib.Core.Path.{_≡_, refl, sym, ap, _∙_}
-use mathlib.Core.Bool.{Bool, true, false, cond}
-use mathlib.Core.List.{List, [], _∷_, _++_}
+use mathlib.Core.Bool.{Bool}
+use mathlib.Core.List.{List, []}
 use mathlib.Core.Logic.{⊎-elim}
 use mathlib.Core.Option.{Option, none, some}
 use Prim.Native.Nat.{ℕ, suc, _+_, _-_, _*_, _^_, _≤_, _<_}
-use native.Mathlib.Nat.{add-le-add, mul-le-mul-left, le-refl}
 use native.Mathlib.Omega.{arith}
 use lib.Bits.{bitAnd}
 use lib.Count.{ones}
-use lib.Dec.{T, ltb, leb, eqb, ltb→lt, lt→ltb}
-use lib.ListN.{length}
+use lib.Dec.{T, ltb, leb, ltb→lt, lt→ltb}
 use Rattle.fold.specs.Test.{same-test, test}
 use Rattle.fold.specs.Fold
-use Rattle.fold.specs.Fold.{sum, count, some-at, some-of}
-use Rattle.fold.specs.Sums.{sum-le}
-use Rattle.fold.specs.Counting.{le-or-lt, count-bound}
+use Rattle.fold.specs.Fold.{count, some-at, some-of}
+use Rattle.fold.specs.Counting.{le-or-lt}
 use Rattle.sets.specs.Mask.{has, mask, mask-and, mask-has, ones-mask}
-use Rattle.model.specs.Model.{Yard, received, lastSlot, slotOf, revisiting, revisits, splitBoxes, splitsTo, splits, weighed, cost, fitting}
+use Rattle.model.specs.Model.{Yard, lastSlot}
 use Rattle.model.specs.Overbooked.{Interval, firstOverbooked}
 use Rattle.feasibility.specs.Bound.{Windows, Spacious}
 use Rattle.feasibility.specs.NoRow.{none-fits}
-use Rattle.feasibility.specs.RowOrNone.{none-fitting, some-over}
-use Rattle.beam.specs.Beam.{Plan, costSoFar, rowOf, discarded, beamRow}
+use Rattle.feasibility.specs.RowOrNone.{some-over}
+use Rattle.beam.specs.Beam.{discarded, beamRow}
 use Rattle.beam.specs.Discards.{ending, kept-fits, fits-kept}
-use Rattle.beam.specs.Paths.{Path}
-use Rattle.beam.specs.Completing.{completes}
-use Rattle.beam.specs.Result.{Says, beam-says, whole-cost}
+use Rattle.beam.specs.Result.{Says, beam-says}
 
 -- ---- 9 exactly where an interval is overbooked
 
 module _ (y : Yard) (width : ℕ) (windows : Windows y) (wide : 1 ≤ width) where
-  pub beam-row : firstOverbooked y ≡ none → (row : List ℕ) × (beamRow y width ≡ some row) × T (fitting y row)
-  beam-row e = go (beamRow y width) (beam-says y width windows wide)
-    where
-      go : (o : Option (List ℕ)) → Says y o → (row : List ℕ) × (o ≡ some row) × T (fitting y row)
-      go none says = let (row, ok) = none-fitting y windows e in absurd (says row ok)
-      go (some row) says = (row, refl, says)
-
   pub beam-none : (w : Interval) → firstOverbooked y ≡ some w → beamRow y width ≡ none
   beam-none w e = go (beamRow y width) (beam-says y width windows wide)
     where
@@ -85,33 +72,3 @@ module _ (y : Yard) (r : ℕ) (small : r < 2 ^ y .trains) where
           (some-at (suc (y .slots - t)) (crowded t) d (omega arith)
           (lt→ltb (y .tracks * d) (ones (bitAnd r (endsBy y (t + d)))) (omega (arith, ending-ones b, ap (λ x. ones (bitAnd r (endsBy y x))) e))))))
           (le-or-lt (count (y .trains) (ending y r b)) (y .tracks * d))
-
--- ---- a bound for what code adds up
-
--- more slots cost no less
-so-far-grows : (y : Yard) (more p : Plan) → costSoFar y p ≤ costSoFar y (more ++ p)
-unfolding costSoFar
-so-far-grows y [] p = le-refl (costSoFar y p)
-so-far-grows y (s ∷ more) p = omega (arith, so-far-grows y more p)
-
-split-le : (y : Yard) (row : List ℕ) (i j : ℕ) → splitBoxes (received y) row i j ≤ received y i j
-unfolding splitBoxes
-split-le y row i j = part (eqb (slotOf row i) (slotOf row j))
-  where
-    part : (b : Bool) → cond b 0 (received y i j) ≤ received y i j
-    part true = omega arith
-    part false = omega arith
-
-cost-bound : (y : Yard) (row : List ℕ) → cost y row ≤ y .revisit * y .trains + y .split * sum (y .trains) λ i. sum (y .trains) (received y i)
-unfolding cost weighed revisits splits splitsTo
-cost-bound y row =
-    add-le-add (mul-le-mul-left (y .revisit) (count-bound (revisiting (y .trains) (received y) row) (y .trains)))
-    (mul-le-mul-left (y .split)
-    (sum-le (y .trains) (splitsTo (y .trains) (received y) row) (λ i. sum (y .trains) (received y i))
-    (λ i l. sum-le (y .trains) (splitBoxes (received y) row i) (received y i) (λ j m. split-le y row i j))))
-
-pub so-far-bound : (y : Yard) → Windows y → (p : Plan) → Path y p → length p ≤ y .slots
-    → costSoFar y p ≤ y .revisit * y .trains + y .split * sum (y .trains) λ i. sum (y .trains) (received y i)
-so-far-bound y windows p h upto =
-    let (more, path, whole) = completes y windows (y .slots - length p) p (omega arith) h in
-    omega (arith, so-far-grows y more p, whole-cost y windows (more ++ p) path whole, cost-bound y (rowOf y (more ++ p)))
