@@ -9,6 +9,7 @@
 --   long-best          where the number of full slots is 0 the cost is least, and the plan is the best of all allowed rows in order 5's order.
 -- On any day, at any width and in any row:
 --   long-unsound, long-width, long-short   when 8, 21 and 10 are returned, in this order;
+--   long-only          a sound day gets 21, 10 or 9 and no other refusal;
 --   long-kept          a refusal leaves every byte of the row;
 --   long-beyond        bytes beyond the first n never change.
 -- The laws `found-…` say the same of the search itself, and `long-planned`, `long-row` what the call answers and leaves where its checks hold.
@@ -18,17 +19,18 @@ use mathlib.Core.Bool.{Bool, true, false, cond, _&&_}
 use mathlib.Core.List.{List, [], _∷_, _++_}
 use mathlib.Core.Logic.{_↔_, _⊎_, inl, inr, ⊎-elim}
 use mathlib.Core.Option.{Option, none, some}
-use Prim.Native.Nat.{ℕ, _≤_, _<_}
+use Prim.Native.Nat.{ℕ, suc, _≤_, _<_}
 use native.Mathlib.Omega.{arith}
 use lib.Dec.{T, leb, leb→le, le→leb}
 use lib.ListN.{length, take, drop}
 use Rattle.fold.specs.Test.{is-true, is-false, of-true, both, both-of}
+use Rattle.fold.specs.Counting.{le-or-lt}
 use Rattle.fold.specs.Listed.{take-front, drop-front}
 use Rattle.model.specs.Model.{Yard, outcome, cost, boundInside, allowed, Best, SomeRow, NoRow, FirstOverbooked}
 use Rattle.model.specs.Rows.{allowed-is}
 use Rattle.model.specs.Overbooked.{Interval, firstOverbooked, SaysFirst, first-says}
 use Rattle.day.specs.Answer.{Answer, gives, refuses, code, checked, holding}
-use Rattle.day.specs.AnswerLaws.{AllHold, gives-same, checked-holds, all-holding, holding-all}
+use Rattle.day.specs.AnswerLaws.{Only, only-wider, AllHold, gives-same, checked-holds, all-holding, holding-all}
 use Rattle.day.specs.Sound.{sound}
 use Rattle.day.specs.SoundLaws.{Sound, sound-is}
 use Rattle.feasibility.specs.RowOrNone.{none-fitting}
@@ -211,6 +213,37 @@ module _ (y : Yard) (width bytes : ℕ) where
   pub long-short : T (sound longLimits y) → T (isWidth width) → bytes < y .trains → longPlanned longLimits y width bytes ≡ refuses 10 (0 ∷ [])
   unfolding longPlanned
   long-short s w short = rw (is-true (sound longLimits y) s, is-true (isWidth width) w, is-false (leb (y .trains) bytes) (λ t. let a = leb→le (y .trains) bytes t in omega arith))
+
+-- so a sound day gets 21, 10 or 9 and no other refusal, and 9 alone where the width and the row pass
+module _ (y : Yard) (width bytes : ℕ) (isSound : T (sound longLimits y)) where
+  pub long-found-only : 1 ≤ width → width ≤ mostWidth → y .trains ≤ bytes → Only (λ k carries. k ≡ 9) (longPlanned longLimits y width bytes)
+  long-found-only some-width few long =
+      subst (Only (λ k carries. k ≡ 9)) (sym (long-planned y width isSound some-width few bytes long)) (go (beamRow y width) refl)
+    where
+      go : (o : Option (List ℕ)) → beamRow y width ≡ o → Only (λ k carries. k ≡ 9) (foundAnswer y width o)
+      go none e = subst (λ i. Only {X = LongOutcome} (λ k carries. k ≡ 9) (noRow y i)) (sym (found-none y width isSound some-width e .1)) refl
+      go (some row) e = tt
+
+  pub long-only : Only (λ k carries. (k ≡ 21) ⊎ ((k ≡ 10) ⊎ (k ≡ 9))) (longPlanned longLimits y width bytes)
+  long-only =
+      ⊎-elim
+      (λ (a : 1 ≤ width).
+      ⊎-elim
+      (λ (b : suc mostWidth ≤ width). is (long-width y width bytes isSound (inr b)) (inl refl))
+      (λ (b : width < suc mostWidth).
+      ⊎-elim
+      (λ (c : y .trains ≤ bytes). only-wider (λ k carries. k ≡ 9) Any (longPlanned longLimits y width bytes) (λ k carries q. inr (inr q)) (long-found-only a (omega arith) c))
+      (λ (c : bytes < y .trains). is (long-short y width bytes isSound (both (leb 1 width) (leb width mostWidth) (le→leb 1 width a) (le→leb width mostWidth (omega arith))) c) (inr (inl refl)))
+      (le-or-lt (y .trains) bytes))
+      (le-or-lt (suc mostWidth) width))
+      (λ (a : width < 1). is (long-width y width bytes isSound (inl a)) (inl refl))
+      (le-or-lt 1 width)
+    where
+      Any : ℕ → List ℕ → Type 0
+      Any k carries = (k ≡ 21) ⊎ ((k ≡ 10) ⊎ (k ≡ 9))
+
+      is : {k : ℕ} {carries : List ℕ} → longPlanned longLimits y width bytes ≡ refuses k carries → Any k carries → Only Any (longPlanned longLimits y width bytes)
+      is e h = subst (Only Any) (sym e) h
 
 pub long-kept : (y : Yard) (width : ℕ) (row : List ℕ) {k : ℕ} {carries : List ℕ} → longPlanned longLimits y width (length row) ≡ refuses k carries
     → longRowAfter longLimits y width row ≡ row

@@ -3,7 +3,8 @@
 --   plans-found    where an allowed row exists, the row that the search finds stands in the first n bytes and is allowed, and its numbers are
 --                  told: the model's four, the number of full slots and the lower figure. No allowed row costs less than that figure, and where
 --                  the number of full slots is 0 the row is the best of all allowed ones;
---   plans-none     where none exists it is 9 with the first overbooked interval, and the row stays.
+--   plans-none     where none exists it is 9 with the first overbooked interval, and the row stays;
+--   plans-given    six numbers are those of such a row.
 -- The checks, in their order:
 --   text-room      10 where there is no room for six numbers, whatever the text;
 --   text-width     then, where the text reads to a long day, 21 where the width is none of 1 to 64, however short the row;
@@ -16,6 +17,7 @@ use mathlib.Core.List.{List, [], _∷_, _++_}
 use mathlib.Core.Logic.{_⊎_}
 use mathlib.Core.Option.{Option, none, some}
 use Prim.Native.Nat.{ℕ, _≤_, _<_}
+use native.Mathlib.Omega.{arith}
 use lib.Dec.{T, leb}
 use lib.ListN.{length, drop}
 use borrow.Author.Tests.{le-leb, lt-leb}
@@ -73,25 +75,26 @@ module _ (text : List ℕ) (y : Yard) (reads : readDay longLimits text ≡ gives
       pub rowIs : longRowFor text width size row ≡ r ++ drop (y .trains) row
       pub count : longSlotsFor text width (length row) size ≡ y .trains
 
-    pub plans-found : SomeRow y → (r : List ℕ) × Planned r
+    from-row : (r : List ℕ) → beamRow y width ≡ some r → Planned r
     unfolding longPlanFor longRowFor longSlotsFor
+    from-row r e =
+        let ok = found-allowed y width isSound someWidth r e in
+        record {
+          found = e;
+          isAllowed = ok;
+          noneBelow = found-lower y width isSound someWidth;
+          bestIfNoneFull = found-best y width isSound someWidth r e;
+          says = rw day (answered (some r) e);
+          rowIs = rw day (left (some r) e ∙ ap (λ k. r ++ drop k row) (allowed-is y r ok .long));
+          count = rw day (ap (slotsOf y) (answered (some r) e));
+        }
+
+    pub plans-found : SomeRow y → (r : List ℕ) × Planned r
     plans-found some-row = go (beamRow y width) refl
       where
         go : (o : Option (List ℕ)) → beamRow y width ≡ o → (r : List ℕ) × Planned r
         go none e = absurd (found-nowhere y width isSound someWidth e (some-row .0) (some-row .1))
-        go (some r) e =
-            let ok = found-allowed y width isSound someWidth r e in (
-              r,
-              record {
-                found = e;
-                isAllowed = ok;
-                noneBelow = found-lower y width isSound someWidth;
-                bestIfNoneFull = found-best y width isSound someWidth r e;
-                says = rw day (answered (some r) e);
-                rowIs = rw day (left (some r) e ∙ ap (λ k. r ++ drop k row) (allowed-is y r ok .long));
-                count = rw day (ap (slotsOf y) (answered (some r) e));
-              },
-            )
+        go (some r) e = (r, from-row r e)
 
     pub record Overbooked : Type 0 where
       pub first : ℕ
@@ -118,6 +121,14 @@ module _ (text : List ℕ) (y : Yard) (reads : readDay longLimits text ≡ gives
               rowIs = rw day (left none e);
               count = rw day (ap (slotsOf y) said);
             }
+
+    -- so where six numbers are given they are such a row's
+    pub plans-given : (o : LongOutcome) → longPlanFor text width (length row) size ≡ gives o → (r : List ℕ) × Planned r
+    plans-given o said = go (beamRow y width) refl
+      where
+        go : (f : Option (List ℕ)) → beamRow y width ≡ f → (r : List ℕ) × Planned r
+        go (some r) e = (r, from-row r e)
+        go none e = absurd (let z : refuses 9 _ ≡ gives o = sym (plans-none (found-nowhere y width isSound someWidth e) .says) ∙ said in let q : _≡_ {A = ℕ} 0 1 = cc in omega arith)
 
 pub text-room : (text : List ℕ) (width bytes size : ℕ) → size < 6 → longPlanFor text width bytes size ≡ refuses 10 (0 ∷ [])
 unfolding longPlanFor
