@@ -1,5 +1,5 @@
 /* The yard slot planner for programs in C: plan a day, check a day file, value a row of slots, see what planning saves, keep a plan while
- * the day changes.
+ * the day changes, plan a long day.
  *
  * The functions are proved (crates/yard): for every text, every row and all lent memory they return and leave exactly what stands here.
  * They keep no state, allocate nothing, and may be called from several threads at once. Those that plan (yard_answer, yard_plan,
@@ -27,7 +27,9 @@
  * and of a moving day:
  *      8  a state that can't be gone on with        18  a train that is not listed, or can't be cancelled
  *     19  a train that can't be added               20  no slot is open that could be closed
- * Where yard_answer prints a refusal (1 to 7, 9, 15, 16) it returns 0.
+ * and of a long day:
+ *     21  the width is none of 1 to 64
+ * Where yard_answer or yard_long_answer prints a refusal (1 to 7, 9, 15, 16) it returns 0.
  */
 #ifndef YARD_H
 #define YARD_H
@@ -219,6 +221,50 @@ uint64_t yard_add(const uint8_t *text, size_t text_length, uint32_t closed, cons
 uint64_t yard_set_boxes(const uint8_t *text, size_t text_length, uint32_t closed, const uint8_t *row, size_t row_length, uint32_t to,
                         uint32_t from, uint32_t boxes, uint64_t *cost, size_t cost_length, uint16_t *choice, size_t choice_length,
                         uint8_t *day, size_t day_length, uint8_t *next, size_t next_length, uint64_t *numbers, size_t numbers_length);
+
+/* ---- long days (order 9 of document 02)
+ *
+ * Big yards have up to 36 trains on at most 4 tracks and 12 slots. Their day file has these limits (trains 1..36, tracks 1..4, slots
+ * 1..12; weights 0..65535, train numbers 1..99999, boxes 1..255 as in every day file), the same form and no groups: `group train`
+ * among the moves gets 2. They are planned by the beam search of the source's section 4.3, which need not find the cheapest row; how far
+ * off it may be is told beside the plan. */
+#define YARD_LONG_MOST_TRAINS 36
+#define YARD_LONG_DAY_BYTES 20677
+#define YARD_LONG_ANSWER_BYTES 367
+#define YARD_LONG_NUMBERS 6
+#define YARD_LONG_WIDTH 30       /* of yard_long_answer and the program yard-long */
+#define YARD_LONG_MOST_WIDTH 64
+
+/* What the program yard-long prints for a text, byte for byte: the plan file of the row that the beam search finds at width 30 (names
+ * line `revisits splits direct cost`, as yard-plan), or the two lines of a refusal 1 to 7 or 9.
+ * Arguments and return as yard_answer: 0, or 10 where out is shorter than the answer: then no byte of out has changed and *bytes is 0.
+ * YARD_LONG_ANSWER_BYTES always suffice. */
+uint64_t yard_long_answer(const uint8_t *text, size_t text_length, uint8_t *out, size_t out_length, size_t *bytes);
+
+/* Plans the long day of a text at a width.
+ *
+ * text, text_length        the day file. No byte of it changes.
+ * width                    how many partial plans are kept after each slot, 1 to 64.
+ * row, row_length          room for the slot of each train; YARD_LONG_MOST_TRAINS bytes always suffice. Afterwards its first *trains bytes
+ *                          hold the slots; bytes beyond stay as they were, after a refusal all.
+ * numbers, numbers_length  room for at least six numbers. Afterwards the first six hold revisits, split moves, direct moves, cost, the
+ *                          number of slots after which more merged partial plans than the width remained, and the lower figure; after a
+ *                          refusal what it carries, then zeros (1 to 7 the line; 9 the first and last slot of the overbooked stretch and
+ *                          the number of trains bound inside; 10 and 21 six zeros). Numbers beyond stay as they were.
+ * trains                   holds the number of slots written afterwards: the number of trains of the day, or 0 after any refusal.
+ *
+ * Returns 0, or the refusal: 10 where numbers_length is below 6 (then no number has changed, and *trains is 0), else 1 to 7, else 21 where
+ * width is outside 1..64, else 10 where row_length is below the number of trains, else 9. */
+uint64_t yard_long_plan(const uint8_t *text, size_t text_length, uint32_t width, uint8_t *row, size_t row_length, uint64_t *numbers,
+                        size_t numbers_length, size_t *trains);
+
+/* Checks whether a text is a long day's file: as yard_check. Returns 0, or the refusal, 1 to 7; *line holds 0 or its line. */
+uint64_t yard_long_check(const uint8_t *text, size_t text_length, uint64_t *line);
+
+/* Values a row of slots on the long day of a text: as yard_value, four numbers. Returns 0, or the refusal: 10 where numbers_length is
+ * below 4 (then no number has changed), else 1 to 7, else 11, 12 or 13. */
+uint64_t yard_long_value(const uint8_t *text, size_t text_length, const uint8_t *row, size_t row_length, uint64_t *numbers,
+                         size_t numbers_length);
 
 #ifdef __cplusplus
 }

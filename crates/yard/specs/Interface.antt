@@ -1,5 +1,5 @@
--- The version of the C interface, and what `yard_answer` tells besides what it writes. The other C functions return and leave what the calls
--- behind them do: 0 where something is given, else the refusal's number, with its values beside it.
+-- The version of the C interface, and what `yard_answer` and `yard_long_answer` tell besides what they write. The other C functions return
+-- and leave what the calls behind them do: 0 where something is given, else the refusal's number, with its values beside it.
 -- Assumes nothing.
 use Prim.Native.Nat.{ℕ}
 use Rattle.day.specs.Answer.{Answer, gives, refuses}

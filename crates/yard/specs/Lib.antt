@@ -1,3 +1,4 @@
 pub mod Interface
 pub mod Returns
 pub mod Moving
+pub mod Long

@@ -2,7 +2,7 @@
 // (include/yard.h). A slice is a pointer and a length.
 //
 // Proved: for every text, row and lent memory each function returns and leaves what the call behind it says, in the papers' numbers
-// (specs/Returns.antt: which they can be, and what they mean); too little room gives refusal 10. Assumes nothing; of a caller only that a pointer has the length that is given beside it.
+// (specs/Returns.antt, Moving.antt and Long.antt: which they can be, and what they mean); too little room gives refusal 10. Assumes nothing; of a caller only that a pointer has the length that is given beside it.
 ghost use mathlib.Core.Path.{_≡_};
 ghost use lib.ListN.{length};
 ghost use Rattle.day.specs.Answer.{code};
@@ -19,6 +19,9 @@ ghost use Rattle.text_savings.specs.TextSavings.{compareText, outcomes};
 ghost use Rattle.rolling.specs.Rolling.{cancel, add, setBoxes};
 ghost use Rattle.state_text.specs.StateText.{stateNumbers, dayAfter, planAfter};
 ghost use Rattle.text_rolling.specs.TextRolling.{beginFor, closeFor, changeFor, beginOpens, changeOpens};
+ghost use Rattle.long_day.specs.LongDay.{longLimits};
+ghost use Rattle.long_answering.specs.LongAnswering.{longAnswerWrites, longAnswerLeaves};
+ghost use Rattle.text_long.specs.TextLong.{longNumbersAfter, longPlanFor, longRowFor, longSlotsFor};
 ghost use Rattle.yard.specs.Interface.{version, count};
 use account_edits::Change;
 use baselines::Procedure;
@@ -277,4 +280,62 @@ pub extern "C" fn yard_set_boxes(
         next,
         numbers,
     )
+}
+
+// ---- long days
+
+// What yard-long prints for a text, in the first bytes of `out`, and their count; or 10, with a count of 0.
+#[no_mangle]
+pub extern "C" fn yard_long_answer(text: &[u8], out: &mut [u8], bytes: &mut usize) -> u64
+    ensures { λ r. ⌜ r ≡ code (longAnswerWrites (now (text .entry)) (length (now (out .entry)))) ⌝ }
+    ensures { λ _. ⌜ now (bytes .exit) ≡ count (longAnswerWrites (now (text .entry)) (length (now (out .entry)))) ⌝ }
+    ensures { λ _. ⌜ now (out .exit) ≡ longAnswerLeaves (now (text .entry)) (now (out .entry)) ⌝ }
+{
+    match long_answering::answer_long_text(text, out) {
+        Wrote::Bytes(n) => {
+            *bytes = n;
+            0
+        }
+        Wrote::Refused(refusal) => {
+            *bytes = 0;
+            refusals::in_numbers(refusal).number
+        }
+    }
+}
+
+// Plans the long day of a text at a width: 0 with the slots in the first bytes of `row`, revisits, split moves, direct moves, cost, the number
+// of full slots and the lower figure in the first six numbers, and the number of slots in `trains`; or the number of the refusal with what
+// it carries there, and no slots.
+#[no_mangle]
+pub extern "C" fn yard_long_plan(
+    text: &[u8],
+    width: u32,
+    row: &mut [u8],
+    numbers: &mut [u64],
+    trains: &mut usize,
+) -> u64
+    ensures { λ r. ⌜ r ≡ code (longPlanFor (now (text .entry)) width (length (now (row .entry))) (length (now (numbers .entry)))) ⌝ }
+    ensures { λ _. ⌜ now (numbers .exit) ≡ longNumbersAfter (longPlanFor (now (text .entry)) width (length (now (row .entry))) (length (now (numbers .entry)))) (now (numbers .entry)) ⌝ }
+    ensures { λ _. ⌜ now (row .exit) ≡ longRowFor (now (text .entry)) width (length (now (numbers .entry))) (now (row .entry)) ⌝ }
+    ensures { λ _. ⌜ now (trains .exit) ≡ longSlotsFor (now (text .entry)) width (length (now (row .entry))) (length (now (numbers .entry))) ⌝ }
+{
+    text_long::plan_long_text(text, width, row, numbers, trains)
+}
+
+// Whether a text is a long day's file: 0, or the number of the refusal and its line.
+#[no_mangle]
+pub extern "C" fn yard_long_check(text: &[u8], at: &mut u64) -> u64
+    ensures { λ r. ⌜ r ≡ code (readDay longLimits (now (text .entry))) ⌝ }
+    ensures { λ _. ⌜ now (at .exit) ≡ line (readDay longLimits (now (text .entry))) ⌝ }
+{
+    text_long::check_long_text(text, at)
+}
+
+// Values a row of slots on the long day of a text, as yard_value does on a day.
+#[no_mangle]
+pub extern "C" fn yard_long_value(text: &[u8], row: &[u8], numbers: &mut [u64]) -> u64
+    ensures { λ r. ⌜ r ≡ code (valueText longLimits (now (text .entry)) (now (row .entry)) (length (now (numbers .entry)))) ⌝ }
+    ensures { λ _. ⌜ now (numbers .exit) ≡ numbersAfter (valueText longLimits (now (text .entry)) (now (row .entry)) (length (now (numbers .entry)))) (now (numbers .entry)) ⌝ }
+{
+    text_long::value_long_text(text, row, numbers)
 }
