@@ -46,11 +46,11 @@ use Rattle.long_planning.specs.LongPlanning.{LongOutcome, mostWidth, isW
 -- ---- what the search says of a sound long day, in allowed rows
 
 module _ (y : Yard) (width : ℕ) (isSound : T (sound longLimits y)) (someWidth : 1 ≤ width) where
-  is : Sound longLimits y
-  is = sound-is longLimits y isSound
+  checked-day : Sound longLimits y
+  checked-day = sound-is longLimits y isSound
 
   searched : Says y (beamRow y width)
-  searched = beam-says y width (is .windows) someWidth
+  searched = beam-says y width (checked-day .windows) someWidth
 
   -- a row that it finds is allowed, and where it finds none, none is
   pub found-allowed : (row : List ℕ) → beamRow y width ≡ some row → T (allowed y row)
@@ -61,18 +61,18 @@ module _ (y : Yard) (width : ℕ) (isSound : T (sound longLimits y)) (someWidth 
 
   -- no allowed row costs less than the lower figure
   pub found-lower : (other : List ℕ) → T (allowed y other) → lowerFigure y ≤ cost y other
-  found-lower other ok = figure-lower y (is .own) other (subst T (long-allowed y isSound other) ok)
+  found-lower other ok = figure-lower y (checked-day .own) other (subst T (long-allowed y isSound other) ok)
 
   -- where nothing was cut it is the best plan
   pub found-best : (row : List ℕ) → beamRow y width ≡ some row → fullSlots y width ≡ 0 → Best y row
-  found-best row e uncut = best-fitting y (long-allowed y isSound) row (subst (SaysBest y) e (beam-best y width someWidth uncut (is .windows)))
+  found-best row e uncut = best-fitting y (long-allowed y isSound) row (subst (SaysBest y) e (beam-best y width someWidth uncut (checked-day .windows)))
 
   -- where it finds none an interval is overbooked
   pub found-none : beamRow y width ≡ none → (w : Interval) × (firstOverbooked y ≡ some w)
   found-none e = go (firstOverbooked y) refl
     where
       go : (o : Option Interval) → firstOverbooked y ≡ o → (w : Interval) × (firstOverbooked y ≡ some w)
-      go none f = let (row, fits) = none-fitting y (is .windows) f in absurd (subst (Says y) e searched row fits)
+      go none f = let (row, fits) = none-fitting y (checked-day .windows) f in absurd (subst (Says y) e searched row fits)
       go (some w) f = (w, f)
 
 -- ---- what the call answers and leaves where its checks hold

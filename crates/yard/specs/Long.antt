@@ -47,29 +47,29 @@ abbrev OfLongReading : ℕ → Type 0
 OfLongReading k = k ≤ 7
 
 module _ (text : List ℕ) where
-  refused : Only (λ k carries. OfLongReading k) (readDay longLimits text)
-  refused = only-wider (AtLine PlainRefusal) (λ k carries. OfLongReading k) (readDay longLimits text) (λ k carries q. q .0 .1) (read-ungrouped longLimits refl text)
+  of-text : Only (λ k carries. OfLongReading k) (readDay longLimits text)
+  of-text = only-wider (AtLine PlainRefusal) (λ k carries. OfLongReading k) (readDay longLimits text) (λ k carries q. q .0 .1) (read-ungrouped longLimits refl text)
 
   pub long-check-returns : code (readDay longLimits text) ≤ 7
-  long-check-returns = text-returns longLimits text OfLongReading zero-le refused
+  long-check-returns = text-returns longLimits text OfLongReading zero-le of-text
 
   pub long-value-returns : (size : ℕ) → 4 ≤ size → (row : List ℕ) → let k = code (valueText longLimits text row size) in (k ≤ 7) ⊎ ((11 ≤ k) × (k ≤ 13))
   unfolding valueText
   long-value-returns size room row =
-      for-sound longLimits text OfLongReading zero-le refused (λ k. (11 ≤ k) × (k ≤ 13)) numberCount size (λ y. valued longLimits y row) room
+      for-sound longLimits text OfLongReading zero-le of-text (λ k. (11 ≤ k) × (k ≤ 13)) numberCount size (λ y. valued longLimits y row) room
       λ y s. long-valued-only y row s
 
   module _ (size : ℕ) (room : 6 ≤ size) (width bytes : ℕ) where
     pub long-plan-returns : let k = code (longPlanFor text width bytes size) in (k ≤ 7) ⊎ ((k ≡ 21) ⊎ ((k ≡ 10) ⊎ (k ≡ 9)))
     unfolding longPlanFor
     long-plan-returns =
-        for-sound longLimits text OfLongReading zero-le refused (λ k. (k ≡ 21) ⊎ ((k ≡ 10) ⊎ (k ≡ 9))) longNumberCount size (λ y. longPlanned longLimits y width bytes) room
+        for-sound longLimits text OfLongReading zero-le of-text (λ k. (k ≡ 21) ⊎ ((k ≡ 10) ⊎ (k ≡ 9))) longNumberCount size (λ y. longPlanned longLimits y width bytes) room
         λ y s. long-only y width bytes s
 
     pub long-plan-suffices : 1 ≤ width → width ≤ mostWidth → 36 ≤ bytes → let k = code (longPlanFor text width bytes size) in (k ≤ 7) ⊎ (k ≡ 9)
     unfolding longPlanFor
     long-plan-suffices some-width few long =
-        for-sound longLimits text OfLongReading zero-le refused (λ k. k ≡ 9) longNumberCount size (λ y. longPlanned longLimits y width bytes) room
+        for-sound longLimits text OfLongReading zero-le of-text (λ k. k ≡ 9) longNumberCount size (λ y. longPlanned longLimits y width bytes) room
         λ y s. long-found-only y width bytes s some-width few (omega (arith, sound-is longLimits y s .trains .1))
 
   pub long-no-numbers : (size width bytes : ℕ) (row : List ℕ) → (size < 4 → code (valueText longLimits text row size) ≡ 10) × (size < 6 → code (longPlanFor text width bytes size) ≡ 10)

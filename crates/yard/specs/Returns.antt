@@ -87,29 +87,29 @@ module _ (l : Limits) (text : List ℕ) (reading : ℕ → Type 0) (given : read
 -- ---- the numbers returned
 
 module _ (text : List ℕ) where
-  refused : Only (λ k carries. OfReading k) (readDay dayLimits text)
-  refused = only-wider Lined (λ k carries. OfReading k) (readDay dayLimits text) (λ k carries q. of-reading k (q .0)) (read-lined dayLimits text)
+  of-text : Only (λ k carries. OfReading k) (readDay dayLimits text)
+  of-text = only-wider Lined (λ k carries. OfReading k) (readDay dayLimits text) (λ k carries q. of-reading k (q .0)) (read-lined dayLimits text)
 
   pub check-returns : let k = code (readDay dayLimits text) in (k ≤ 7) ⊎ (k ≡ 15)
-  check-returns = text-returns dayLimits text OfReading (inl zero-le) refused
+  check-returns = text-returns dayLimits text OfReading (inl zero-le) of-text
 
   module _ (size : ℕ) (room : 4 ≤ size) where
     pub value-returns : (row : List ℕ) → let k = code (valueText dayLimits text row size) in ((k ≤ 7) ⊎ (k ≡ 15)) ⊎ (((11 ≤ k) × (k ≤ 13)) ⊎ (k ≡ 17))
     unfolding valueText
     value-returns row =
-        for-sound dayLimits text OfReading (inl zero-le) refused (λ k. ((11 ≤ k) × (k ≤ 13)) ⊎ (k ≡ 17)) numberCount size (λ y. valued dayLimits y row) room
+        for-sound dayLimits text OfReading (inl zero-le) of-text (λ k. ((11 ≤ k) × (k ≤ 13)) ⊎ (k ≡ 17)) numberCount size (λ y. valued dayLimits y row) room
         λ y s. valued-only dayLimits y row s
 
     pub compare-returns : (procedure : Yard → List ℕ) → let k = code (compareText procedure dayLimits text size) in ((k ≤ 7) ⊎ (k ≡ 15)) ⊎ (((k ≡ 9) ⊎ (k ≡ 16)) ⊎ (k ≡ 14))
     unfolding compareText
     compare-returns procedure =
-        for-sound dayLimits text OfReading (inl zero-le) refused (λ k. ((k ≡ 9) ⊎ (k ≡ 16)) ⊎ (k ≡ 14)) numberCount size (λ y. compared dayLimits y (procedure y) costArea choiceArea) room
+        for-sound dayLimits text OfReading (inl zero-le) of-text (λ k. ((k ≡ 9) ⊎ (k ≡ 16)) ⊎ (k ≡ 14)) numberCount size (λ y. compared dayLimits y (procedure y) costArea choiceArea) room
         λ y s. compared-only dayLimits y costArea choiceArea (procedure y) (areas-suffice y (y .trains) s (omega arith))
 
     pub plan-returns : (bytes : ℕ) → 12 ≤ bytes → let k = code (planFor dayLimits text costArea choiceArea bytes size) in ((k ≤ 7) ⊎ (k ≡ 15)) ⊎ ((k ≡ 9) ⊎ (k ≡ 16))
     unfolding planFor
     plan-returns bytes long =
-        for-sound dayLimits text OfReading (inl zero-le) refused (λ k. (k ≡ 9) ⊎ (k ≡ 16)) numberCount size (λ y. planned dayLimits y costArea choiceArea bytes) room
+        for-sound dayLimits text OfReading (inl zero-le) of-text (λ k. (k ≡ 9) ⊎ (k ≡ 16)) numberCount size (λ y. planned dayLimits y costArea choiceArea bytes) room
         λ y s. planned-only dayLimits y costArea choiceArea bytes (areas-suffice y bytes s (omega (arith, sound-is dayLimits y s .trains .1)))
 
   -- ---- what is returned means
