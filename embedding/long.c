@@ -84,8 +84,8 @@ int main(int argc, char **argv)
         print_refusal(refusal, numbers);
         return 1;
     }
-    printf("width %" PRIu32 ": revisits %" PRIu64 ", splits %" PRIu64 ", direct %" PRIu64 ", cost %" PRIu64 "\n", width, numbers[0], numbers[1],
-           numbers[2], numbers[3]);
+    printf("width %" PRIu32 ": revisits %" PRIu64 ", splits %" PRIu64 ", direct %" PRIu64 ", cost %" PRIu64 "\n", width, numbers[0],
+           numbers[1], numbers[2], numbers[3]);
     for (size_t i = 0; i < trains; i++)
         printf("train %zu of the day file: slot %u\n", i + 1, row[i]);
     print_distance(numbers);
