@@ -13,7 +13,8 @@ Size = namedtuple("Size", "trains tracks slots")
 
 MOST_NUMBER = 99999  # the greatest train number, and the greatest value that a file can hold
 MOST_WEIGHT = 65535
-PLANNED, ANY = Size(12, 12, 8), Size(MOST_NUMBER, MOST_NUMBER, MOST_NUMBER)  # what yard-plan takes; any day file
+PLANNED, LONG = Size(12, 12, 8), Size(36, 4, 12)  # what yard-plan takes, with groups or without, and yard-long, without
+ANY = Size(MOST_NUMBER, MOST_NUMBER, MOST_NUMBER)  # any day file
 DAY_NAMES, GROUP_NAMES = ["trains tracks slots revisit split", "train first last", "to from boxes"], ["group train"]
 ROW = re.compile(r"(0|[1-9][0-9]{0,9})( (0|[1-9][0-9]{0,9}))*")
 
@@ -61,13 +62,13 @@ def sections(path, text):
         tables[-1].append(row)
     return names, tables
 
-def day_of(path, text, most=PLANNED):
-    """The day of a text, of at most so many trains, tracks and slots."""
+def day_of(path, text, *sizes):
+    """The day of a text, of at most so many trains, tracks and slots: of one of these sizes, by default yard-plan's or yard-long's."""
     names, tables = sections(path, text)
     demand(names in (DAY_NAMES, DAY_NAMES + GROUP_NAMES) and len(tables[0]) == 1, f"{path}: this is no day file")
     count, tracks, slots, revisit_weight, split_weight = tables[0][0]
-    sized = 1 <= count <= most.trains and 1 <= tracks <= most.tracks and 1 <= slots <= most.slots
-    demand(sized and max(revisit_weight, split_weight) <= MOST_WEIGHT, f"{path}: line 2 is outside its limits")
+    fits = [size for size in sizes or (PLANNED, LONG) if 1 <= count <= size.trains and 1 <= tracks <= size.tracks and 1 <= slots <= size.slots]
+    demand(fits and max(revisit_weight, split_weight) <= MOST_WEIGHT, f"{path}: line 2 is outside its limits")
     windows = {train: (first, last) for train, first, last in tables[1]}
     demand(len(windows) == len(tables[1]) == count, f"{path}: line 2 says {count} trains, the list differs")
     demand(rising(list(windows)), f"{path}: the train numbers do not rise")
@@ -77,6 +78,7 @@ def day_of(path, text, most=PLANNED):
         known = to in windows and supplier in windows and to != supplier
         demand(known and 1 <= boxes <= 255, f"{path}: the move {to} {supplier} {boxes} is not possible")
     demand(rising([move[:2] for move in tables[2]]), f"{path}: the pairs of the moves do not rise")
+    demand(len(tables) == 3 or fits != [LONG], f"{path}: a long day has no groups")
     groups = groups_of(path, windows, tables[3]) if len(tables) == 4 else {}
     return Day(tracks, slots, revisit_weight, split_weight, windows, tables[2], groups)
 
