@@ -107,7 +107,7 @@ lower-figure-requires : tie.Need-lower-figure-requires
 lower-figure-requires c κs =
     let s = origin (c .before .before .before .before .before .before .before .before) in
     let is = least s in
-    (table s, omega (arith, is .shape .first, is .trains .1), omega (arith, is .shape .last, is .trains .1), is .tracks .0, is .tracks .1, is .weights .0, is .weights .1)
+    (table s, omega (arith, is .shape .first, is .trains .1), omega (arith, is .shape .last, is .trains .1), is .tracks .0, is .tracks .1, omega (arith, is .weights), omega (arith, is .weights))
 
 same-length : tie.Need-same-length
 same-length c = search needs
