@@ -247,7 +247,8 @@ uint64_t yard_long_answer(const uint8_t *text, size_t text_length, uint8_t *out,
  * text, text_length        the day file. No byte of it changes.
  * width                    how many partial plans are kept after each slot, 1 to 64.
  * row, row_length          room for the slot of each train; YARD_LONG_MOST_TRAINS bytes always suffice. Afterwards its first *trains bytes
- *                          hold the slots; bytes beyond stay as they were, after a refusal all.
+ *                          hold the slots, counted from 1, in the order of the file's trains; bytes beyond stay as they were, after a
+ *                          refusal all.
  * numbers, numbers_length  room for at least six numbers. Afterwards the first six hold revisits, split moves, direct moves, cost, the
  *                          number of slots after which more merged partial plans than the width remained, and the lower figure; after a
  *                          refusal what it carries, then zeros (1 to 7 the line; 9 the first and last slot of the overbooked stretch and
@@ -262,8 +263,8 @@ uint64_t yard_long_plan(const uint8_t *text, size_t text_length, uint32_t width,
 /* Checks whether a text is a long day's file: as yard_check. Returns 0, or the refusal, 1 to 7; *line holds 0 or its line. */
 uint64_t yard_long_check(const uint8_t *text, size_t text_length, uint64_t *line);
 
-/* Values a row of slots on the long day of a text: as yard_value, four numbers. Returns 0, or the refusal: 10 where numbers_length is
- * below 4 (then no number has changed), else 1 to 7, else 11, 12 or 13. */
+/* Values a row of slots on the long day of a text: as yard_value, four numbers, and after a refusal what it carries there. Returns 0, or
+ * the refusal: 10 where numbers_length is below 4 (then no number has changed), else 1 to 7, else 11, 12 or 13. */
 uint64_t yard_long_value(const uint8_t *text, size_t text_length, const uint8_t *row, size_t row_length, uint64_t *numbers,
                          size_t numbers_length);
 
