@@ -9,13 +9,7 @@
  *     compare answer FUNCTION DAY   one call, for instruction counts (bench/run counts)
  *     compare moving FUNCTION STATE the same of a moving day's functions
  */
-#define _POSIX_C_SOURCE 200809L
-#include <stdio.h>
-#include <stdlib.h>
-#include <string.h>
-#include <time.h>
-
-#include "yard.h"
+#include "days.h"
 
 /* ---- the functions: the proved one, then the same algorithm by each compiler, then the plain one by each */
 
@@ -44,49 +38,17 @@ enum { FUNCTIONS = sizeof functions / sizeof *functions, COMPILED = (FUNCTIONS -
 
 /* ---- the days, as texts */
 
-/* A day file has at most 2,437 bytes. */
-enum { MOST_TEXT = 4096, MOST_DAYS = 64, MOST_TRAINS = 12, PER_PROBABILITY = 5 };
+enum { MOST_DAYS = 64, PER_PROBABILITY = 5 };
 
-enum group { MAIN, PUBLISHED, GROWTH, WINDOWS, SETS, OVERBOOKED, UNKEPT };
-
-struct day {
-    enum group group;
-    char name[24];
-    unsigned trains, tracks, slots, revisit, split;
-    unsigned first[MOST_TRAINS], last[MOST_TRAINS];
-    unsigned boxes[MOST_TRAINS][MOST_TRAINS];
-    unsigned sets[MOST_TRAINS]; /* the group of each train in the file, 0 for none */
-    unsigned tenths; /* the probability of a pair's boxes, where they are drawn */
-    char text[MOST_TEXT];
-    size_t length;
-    unsigned calls;          /* in one measurement */
-    double least[FUNCTIONS]; /* nanoseconds of a call */
-};
+enum kind { MAIN, PUBLISHED, GROWTH, WINDOWS, SETS, OVERBOOKED, UNKEPT };
 
 static struct day days[MOST_DAYS];
 static size_t day_count;
 
-/* Ends with status 1: what is measured must be the same answers. */
-static void fail(const char *day, const char *what)
-{
-    fprintf(stderr, "compare: %s: %s\n", day, what);
-    exit(1);
-}
-
-/* A day without boxes, all windows open. */
-static struct day *new_day(enum group group, const char *name, unsigned trains, unsigned tracks, unsigned slots)
+static struct day *new_day(enum kind kind, const char *name, unsigned trains, unsigned tracks, unsigned slots)
 {
     struct day *d = &days[day_count++];
-    d->group = group;
-    snprintf(d->name, sizeof d->name, "%s", name);
-    d->trains = trains;
-    d->tracks = tracks;
-    d->slots = slots;
-    d->revisit = d->split = 1;
-    for (size_t i = 0; i < trains; i++) {
-        d->first[i] = 1;
-        d->last[i] = slots;
-    }
+    begin_day(d, kind, name, trains, tracks, slots);
     return d;
 }
 
@@ -97,25 +59,6 @@ static void fill_boxes(struct day *d)
     for (unsigned i = 1; i <= d->trains; i++)
         for (unsigned j = 1; j <= d->trains; j++)
             d->boxes[i - 1][j - 1] = i == j ? 0 : (7 * i * i + 13 * j + 5 * i * j) % 40 + 1;
-}
-
-/* The generator splitmix64: the same draws on every machine. */
-static uint64_t draw(uint64_t *state)
-{
-    uint64_t z = *state += 0x9e3779b97f4a7c15u;
-    z = (z ^ (z >> 30)) * 0xbf58476d1ce4e5b9u;
-    z = (z ^ (z >> 27)) * 0x94d049bb133111ebu;
-    return z ^ (z >> 31);
-}
-
-/* Boxes as section 5.1 of the source draws them: each ordered pair with a probability, given in tenths, then 1 to 10 alike. */
-static void draw_boxes(struct day *d, unsigned tenths, uint64_t seed)
-{
-    d->tenths = tenths;
-    for (size_t i = 0; i < d->trains; i++)
-        for (size_t j = 0; j < d->trains; j++)
-            if (i != j && draw(&seed) % 10 < tenths)
-                d->boxes[i][j] = (unsigned)(draw(&seed) % 10) + 1;
 }
 
 /* Two slots to each train, the trains spread over the slots. */
@@ -134,58 +77,10 @@ static void group_trains(struct day *d)
         d->sets[i] = i % 3 + 1;
 }
 
-static void add_line(struct day *d, const char *line)
-{
-    size_t length = strlen(line);
-    if (sizeof d->text <= d->length + length)
-        fail(d->name, "the text is too long");
-    memcpy(d->text + d->length, line, length);
-    d->length += length;
-}
-
-/* The fourth section, where the day has groups. */
-static void write_groups(struct day *d)
-{
-    char line[64];
-    const char *names = "group train\n";
-    for (unsigned group = 1; group <= 12; group++) {
-        for (unsigned i = 0; i < d->trains; i++) {
-            if (d->sets[i] == group) {
-                snprintf(line, sizeof line, "%s%u %u\n", names, group, i + 1);
-                add_line(d, line);
-                names = "";
-            }
-        }
-    }
-}
-
-static void write_text(struct day *d)
-{
-    char line[64];
-    add_line(d, "trains tracks slots revisit split\n");
-    snprintf(line, sizeof line, "%u %u %u %u %u\n", d->trains, d->tracks, d->slots, d->revisit, d->split);
-    add_line(d, line);
-    add_line(d, "train first last\n");
-    for (unsigned i = 0; i < d->trains; i++) {
-        snprintf(line, sizeof line, "%u %u %u\n", i + 1, d->first[i], d->last[i]);
-        add_line(d, line);
-    }
-    add_line(d, "to from boxes\n");
-    for (unsigned i = 0; i < d->trains; i++) {
-        for (unsigned j = 0; j < d->trains; j++) {
-            if (d->boxes[i][j] > 0) {
-                snprintf(line, sizeof line, "%u %u %u\n", i + 1, j + 1, d->boxes[i][j]);
-                add_line(d, line);
-            }
-        }
-    }
-    write_groups(d);
-}
-
 /* A day with boxes by the formula and three groups. */
-static void add_sets(enum group group, const char *name, unsigned tracks, unsigned slots)
+static void add_sets(enum kind kind, const char *name, unsigned tracks, unsigned slots)
 {
-    struct day *d = new_day(group, name, 12, tracks, slots);
+    struct day *d = new_day(kind, name, 12, tracks, slots);
     fill_boxes(d);
     group_trains(d);
 }
@@ -239,11 +134,11 @@ static size_t answer_into(const struct function *f, const struct day *d, uint8_t
 }
 
 /* How the answer to a day must begin. */
-static const char *expected_start(enum group group)
+static const char *expected_start(enum kind kind)
 {
-    if (group == OVERBOOKED)
+    if (kind == OVERBOOKED)
         return "refusal first last trains\n";
-    return group == UNKEPT ? "refusal line\n16 0\n" : "revisits splits direct cost\n";
+    return kind == UNKEPT ? "refusal line\n16 0\n" : "revisits splits direct cost\n";
 }
 
 static void check_day(const struct day *d)
@@ -251,7 +146,7 @@ static void check_day(const struct day *d)
     uint8_t proved[YARD_ANSWER_BYTES], other[YARD_ANSWER_BYTES];
     char what[64];
     size_t bytes = answer_into(&functions[PROVED], d, proved);
-    const char *begin = expected_start(d->group);
+    const char *begin = expected_start(d->kind);
     if (bytes < strlen(begin) || memcmp(proved, begin, strlen(begin)) != 0)
         fail(d->name, "the answer is of another kind than the day was made for");
     for (size_t k = 1; k < FUNCTIONS; k++) {
@@ -265,9 +160,7 @@ static void check_day(const struct day *d)
 
 static double now(void)
 {
-    struct timespec t;
-    clock_gettime(CLOCK_MONOTONIC, &t);
-    return (double)t.tv_sec * 1e9 + (double)t.tv_nsec;
+    return nanoseconds(CLOCK_MONOTONIC);
 }
 
 /* Nanoseconds of a call, over as many calls as the day has in one measurement. */
@@ -352,11 +245,11 @@ static void print_day(const struct day *d)
     print_ratios(label, &sum);
 }
 
-static void print_group(enum group group, const char *title)
+static void print_kind(enum kind kind, const char *title)
 {
     print_head(title, "");
     for (size_t k = 0; k < day_count; k++) {
-        if (days[k].group == group) {
+        if (days[k].kind == kind) {
             print_day(&days[k]);
             putchar('\n');
         }
@@ -371,7 +264,7 @@ static void print_published(void)
         char label[64];
         struct total sum = {{0}};
         for (size_t k = 0; k < day_count; k++)
-            if (days[k].group == PUBLISHED && days[k].tenths == tenths)
+            if (days[k].kind == PUBLISHED && days[k].tenths == tenths)
                 add_day(&sum, &days[k]);
         snprintf(label, sizeof label, "probability 0.%u, %d days", tenths, PER_PROBABILITY);
         print_ratios(label, &sum);
@@ -385,7 +278,7 @@ static void print_growth(void)
     const struct day *fewest = NULL;
     print_head("growth: probability 0.5", "  proved time");
     for (size_t k = 0; k < day_count; k++) {
-        if (days[k].group == GROWTH) {
+        if (days[k].kind == GROWTH) {
             if (!fewest)
                 fewest = &days[k];
             print_day(&days[k]);
@@ -476,12 +369,6 @@ static void part_windows(struct day *d)
     }
 }
 
-static void write_again(struct day *d)
-{
-    d->length = 0;
-    write_text(d);
-}
-
 /* Binds the served trains to their slots, and has the other windows begin at the first open slot. */
 static void cut_windows(struct state *s)
 {
@@ -506,16 +393,16 @@ static void make_state(struct state *s)
             s->day = days[k];
     if (s->parted)
         part_windows(&s->day);
-    write_again(&s->day);
+    write_text(&s->day);
     if (yard_begin((const uint8_t *)s->day.text, s->day.length, area_cost, YARD_COST_WORDS, area_choice, YARD_CHOICE_WORDS, s->row,
                    sizeof s->row, numbers, YARD_NUMBERS) != 0)
         fail(s->name, "the day was not begun");
     s->changed = s->day;
     s->changed.boxes[CHANGED_TO - 1][CHANGED_FROM - 1] = CHANGED_BOXES;
-    write_again(&s->changed);
+    write_text(&s->changed);
     s->cut = s->changed;
     cut_windows(s);
-    write_again(&s->cut);
+    write_text(&s->cut);
 }
 
 /* The slots can be closed up to the state and one more, and the change leaves the changed day and the plan of the cut day. */
@@ -588,11 +475,11 @@ static int compare(unsigned rounds)
     measure(rounds);
     measure_states(rounds);
     printf("the proved answer's time divided by C's, least of %u rounds; 'same C' and 'plain C' are the faster compiler's\n", rounds);
-    print_group(MAIN, "main days");
+    print_kind(MAIN, "main days");
     print_published();
     print_growth();
-    print_group(WINDOWS, "windows of two slots: probability 0.5");
-    print_group(SETS, "three groups of three trains");
+    print_kind(WINDOWS, "windows of two slots: probability 0.5");
+    print_kind(SETS, "three groups of three trains");
     print_states();
     return 0;
 }
