@@ -108,6 +108,20 @@ pub fn each_list(length: usize, count: usize, visit: &mut dyn FnMut(&[usize])) {
     }
 }
 
+/// All windows of so many trains in so many slots.
+pub fn each_timetable(n: usize, slots: usize, visit: &mut dyn FnMut(&[Train])) {
+    let windows = (1..=slots).flat_map(|first| (first..=slots).map(move |last| (first, last)));
+    let windows: Vec<(usize, usize)> = windows.collect();
+    each_list(n, windows.len(), &mut |list| {
+        let train = |(number, &window): (usize, &usize)| {
+            let (first, last) = windows[window];
+            Train { number, first, last, group: 0 }
+        };
+        let trains: Vec<Train> = (1..).zip(list).map(train).collect();
+        visit(&trains);
+    });
+}
+
 /// All days of so many trains with at most three slots and tracks and so many boxes
 /// for a pair and in all.
 fn each_day(n: usize, (most, most_in_all): (usize, usize), visit: &mut dyn FnMut(&Day)) {
@@ -122,16 +136,9 @@ fn each_day(n: usize, (most, most_in_all): (usize, usize), visit: &mut dyn FnMut
         }
     });
     for slots in 1..=MOST_SMALL {
-        let windows = (1..=slots).flat_map(|first| (first..=slots).map(move |last| (first, last)));
-        let windows: Vec<(usize, usize)> = windows.collect();
-        each_list(n, windows.len(), &mut |list| {
-            let train = |(number, &window): (usize, &usize)| {
-                let (first, last) = windows[window];
-                Train { number, first, last, group: 0 }
-            };
-            let trains: Vec<Train> = (1..).zip(list).map(train).collect();
+        each_timetable(n, slots, &mut |trains| {
             for tracks in 1..=MOST_SMALL {
-                let (revisit_weight, split_weight, trains) = (0, 1, trains.clone());
+                let (revisit_weight, split_weight, trains) = (0, 1, trains.to_vec());
                 let boxes = all_boxes[0];
                 let mut day = Day { tracks, slots, revisit_weight, split_weight, trains, boxes };
                 for boxes in &all_boxes {

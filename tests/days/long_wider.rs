@@ -3,14 +3,13 @@
 //! gone through one by one; others are drawn, and those that are found are made
 //! smaller as long as they stay ones.
 
-use crate::below::each_list;
+use crate::below::{each_list, each_timetable};
 use crate::draw::Random;
 use crate::long_beam::search;
 use crate::long_day::{write_long, LongDay};
 use crate::long_draw::draw_small;
 use crate::long_fast::search_fast;
 use crate::long_plan::told;
-use crate::model::Train;
 use crate::plan::broken;
 
 const DAYS: u64 = 60_000;
@@ -150,14 +149,7 @@ fn print(day: &LongDay) {
 /// pair and small weights.
 fn each_day(n: usize, most_slots: usize, visit: &mut dyn FnMut(&LongDay)) {
     for slots in 1..=most_slots {
-        let windows = (1..=slots).flat_map(|first| (first..=slots).map(move |last| (first, last)));
-        let windows: Vec<(usize, usize)> = windows.collect();
-        each_list(n, windows.len(), &mut |list| {
-            let train = |(number, &window): (usize, &usize)| {
-                let (first, last) = windows[window];
-                Train { number, first, last, group: 0 }
-            };
-            let trains: Vec<Train> = (1..).zip(list).map(train).collect();
+        each_timetable(n, slots, &mut |trains| {
             each_list(n * (n - 1), 2, &mut |pairs| {
                 let mut boxes = vec![vec![0; n]; n];
                 for (place, &number) in pairs.iter().enumerate() {
@@ -166,7 +158,7 @@ fn each_day(n: usize, most_slots: usize, visit: &mut dyn FnMut(&LongDay)) {
                 }
                 for (tracks, weights) in [1, 2].iter().flat_map(|&g| WEIGHTS.map(|w| (g, w))) {
                     let (revisit_weight, split_weight) = weights;
-                    let (trains, boxes) = (trains.clone(), boxes.clone());
+                    let (trains, boxes) = (trains.to_vec(), boxes.clone());
                     let day =
                         LongDay { tracks, slots, revisit_weight, split_weight, trains, boxes };
                     visit(&day);
