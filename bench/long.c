@@ -406,54 +406,7 @@ static struct value value_slots(const struct day *d, const uint8_t *row)
 
 /* ---- reading a long day's file, as long_read::read_long_day on a text that it accepts */
 
-static const uint8_t *after_line(const uint8_t *at)
-{
-    while (*at != '\n')
-        at++;
-    return at + 1;
-}
-
-/* Reads a value and the one byte after it, a space or the end of the line. */
-static uint32_t read_value(const uint8_t **at)
-{
-    uint32_t v = 0;
-    for (; '0' <= **at; ++*at)
-        v = 10 * v + (uint32_t)(**at - '0');
-    ++*at;
-    return v;
-}
-
-static size_t position_of(const struct day *d, uint32_t number)
-{
-    size_t i = 0;
-    while (d->numbers[i] != number)
-        i++;
-    return i;
-}
-
-static void read_day(struct day *d, const uint8_t *text, size_t length)
-{
-    const uint8_t *end = text + length;
-    const uint8_t *at = after_line(text);
-    memset(d, 0, sizeof *d);
-    d->trains = read_value(&at);
-    d->tracks = read_value(&at);
-    d->slots = (uint8_t)read_value(&at);
-    d->revisit = read_value(&at);
-    d->split = read_value(&at);
-    at = after_line(at);
-    for (size_t i = 0; i < d->trains; i++) {
-        d->numbers[i] = read_value(&at);
-        d->first[i] = (uint8_t)read_value(&at);
-        d->last[i] = (uint8_t)read_value(&at);
-    }
-    at = after_line(at);
-    while (at < end) {
-        size_t to = position_of(d, read_value(&at));
-        size_t from = position_of(d, read_value(&at));
-        d->boxes[to * COLUMNS + from] = (uint8_t)read_value(&at);
-    }
-}
+#include "reading.h"
 
 /* ---- the plan, as yard_long_plan: row, numbers, full slots and lower figure, or 9 */
 
@@ -468,7 +421,7 @@ uint64_t LONG_PLAN(const uint8_t *text, size_t text_length, uint32_t width, uint
     if (numbers_length < 6)
         return 10;
     memset(numbers, 0, 6 * sizeof *numbers);
-    read_day(&d, text, text_length);
+    read_sections(&d, COLUMNS, text, text + text_length);
     if (!is_sound(&d))
         return 8; /* no day file: outside what this program is for */
     if (width < 1 || PLANS < width)

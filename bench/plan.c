@@ -381,30 +381,7 @@ static int plan(const struct day *d, uint8_t *row, struct value *v)
 
 /* ---- reading a day file, as dayread::read_day on a text that it accepts */
 
-static const uint8_t *after_line(const uint8_t *at)
-{
-    while (*at != '\n')
-        at++;
-    return at + 1;
-}
-
-/* Reads a value and the one byte after it, a space or the end of the line. */
-static uint32_t read_value(const uint8_t **at)
-{
-    uint32_t v = 0;
-    for (; '0' <= **at; ++*at)
-        v = 10 * v + (uint32_t)(**at - '0');
-    ++*at;
-    return v;
-}
-
-static size_t position_of(const struct day *d, uint32_t number)
-{
-    size_t i = 0;
-    while (d->numbers[i] != number)
-        i++;
-    return i;
-}
+#include "reading.h"
 
 /* From the names line `group train` to the end. */
 static void read_groups(struct day *d, const uint8_t *at, const uint8_t *end)
@@ -419,25 +396,7 @@ static void read_groups(struct day *d, const uint8_t *at, const uint8_t *end)
 static void read_day(struct day *d, const uint8_t *text, size_t length)
 {
     const uint8_t *end = text + length;
-    const uint8_t *at = after_line(text);
-    memset(d, 0, sizeof *d);
-    d->trains = read_value(&at);
-    d->tracks = read_value(&at);
-    d->slots = (uint8_t)read_value(&at);
-    d->revisit = read_value(&at);
-    d->split = read_value(&at);
-    at = after_line(at);
-    for (size_t i = 0; i < d->trains; i++) {
-        d->numbers[i] = read_value(&at);
-        d->first[i] = (uint8_t)read_value(&at);
-        d->last[i] = (uint8_t)read_value(&at);
-    }
-    at = after_line(at);
-    while (at < end && *at != 'g') {
-        size_t to = position_of(d, read_value(&at));
-        size_t from = position_of(d, read_value(&at));
-        d->boxes[to * WIDTH + from] = (uint8_t)read_value(&at);
-    }
+    const uint8_t *at = read_sections(d, WIDTH, text, end);
     if (at < end)
         read_groups(d, at, end);
 }

@@ -241,6 +241,10 @@ fn note(seen: &mut Seen, case: &Case, slots: &[u8], outcome: &Outcome) {
 // The comparison
 // ---------------------------------------------------------------------------
 
+/// yard_value, or yard_long_value.
+pub type Function =
+    unsafe extern "C" fn(*const u8, usize, *const u8, usize, *mut u64, usize) -> u64;
+
 /// The memory lent to the call.
 pub struct Memory {
     pub text: Lent<u8>,
@@ -259,9 +263,15 @@ impl Memory {
 
     /// Makes the call and returns what it returns.
     pub fn value(&mut self) -> u64 {
+        self.value_by(sys::yard_value)
+    }
+
+    /// The lengths are those of the memory, and nothing overlaps: that is all that
+    /// such a function asks.
+    pub fn value_by(&mut self, function: Function) -> u64 {
         let Memory { text, row, numbers } = self;
         unsafe {
-            sys::yard_value(
+            function(
                 text.pointer(),
                 text.length(),
                 row.pointer(),
@@ -270,6 +280,24 @@ impl Memory {
                 numbers.length(),
             )
         }
+    }
+
+    /// Compares what the call returned and left with what it has to, numbers of this
+    /// length being lent.
+    pub fn compare(
+        &self,
+        got: u64,
+        outcome: &Outcome,
+        lent: usize,
+        boxes: usize,
+    ) -> Result<(), String> {
+        returned(got, outcome.refusal)?;
+        self.numbers.holds(&outcome.written(lent))?;
+        if got == 0 {
+            add_up(boxes, self.numbers.words())?;
+        }
+        self.row.kept()?;
+        self.text.kept()
     }
 }
 
@@ -283,14 +311,7 @@ fn compare_one(
     let outcome = unless_too_few(lent, outcome);
     let mut memory = Memory::lent(case.text, slots, lent, marks);
     let got = memory.value();
-    let Memory { text, row, numbers } = &memory;
-    returned(got, outcome.refusal)?;
-    numbers.holds(&outcome.written(lent))?;
-    if got == 0 {
-        add_up(case.boxes, numbers.words())?;
-    }
-    row.kept()?;
-    text.kept()
+    memory.compare(got, &outcome, lent, case.boxes)
 }
 
 /// Shortened where nobody would read on.

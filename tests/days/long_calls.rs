@@ -187,14 +187,7 @@ fn compare_value_of(
     let outcome = unless_too_few(lent, value_outcome(case, slots));
     let mut memory = ValueMemory::lent(case.text, slots, lent, marks);
     let got = by.value(&mut memory);
-    let ValueMemory { text, row, numbers } = &memory;
-    returned(got, outcome.refusal)?;
-    numbers.holds(&outcome.written(lent))?;
-    if got == 0 {
-        add_up(case.boxes, numbers.words())?;
-    }
-    row.kept()?;
-    text.kept()
+    memory.compare(got, &outcome, lent, case.boxes)
 }
 
 /// Rows of all kinds; `planned` is an allowed one, where there is one.

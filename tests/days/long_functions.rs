@@ -54,17 +54,7 @@ impl Functions for Library {
     }
 
     fn value(&self, memory: &mut ValueMemory) -> u64 {
-        let ValueMemory { text, row, numbers } = memory;
-        unsafe {
-            sys::yard_long_value(
-                text.pointer(),
-                text.length(),
-                row.pointer(),
-                row.length(),
-                numbers.pointer(),
-                numbers.length(),
-            )
-        }
+        memory.value_by(sys::yard_long_value)
     }
 
     fn answer(&self, (text, out, bytes): &mut AnswerMemory) -> u64 {

@@ -19,14 +19,14 @@ use Rattle.beam.specs.Beam.{fullSlots, beamRow}
 use Rattle.beam.specs.LowerFigure.{lowerFigure}
 use Rattle.beam.specs.Shortcuts.{beam-none}
 use Rattle.long_day.specs.LongDay.{longLimits}
-use Rattle.long_planning.specs.LongPlanning.{LongOutcome, mostWidth, isWidth, foundAnswer, longPlanned, longRowAfter}
+use Rattle.long_planning.specs.LongPlanning.{LongOutcome, isWidth, foundAnswer, longPlanned, longRowAfter}
 
 -- ---- a sound day, a width and a row that pass the checks
 
 pub record Searchable (y : Yard) (width : ℕ) (row : List ℕ) : Type 0 where
   pub isSound : T (sound longLimits y)
   pub someWidth : 1 ≤ width
-  pub fewWidth : width ≤ mostWidth
+  pub fewWidth : width ≤ 64
   pub long : y .trains ≤ length row
 
 pub record Decided (y : Yard) (width : ℕ) (row₀ : List ℕ) (said : Answer LongOutcome) (row : List ℕ) : Type 0 where

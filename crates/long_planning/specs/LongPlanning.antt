@@ -38,11 +38,8 @@ answer (Refused r) = refusal r
 
 -- ---- the checks: 8 the record is sound, 21 the width is one of 1 to 64, 10 the row has n bytes
 
-abbrev pub mostWidth : ℕ
-mostWidth = 64
-
 abbrev pub isWidth : ℕ → Bool
-isWidth width = leb 1 width && leb width mostWidth
+isWidth width = leb 1 width && leb width 64
 
 abbrev pub longChecks : Limits → Yard → ℕ → ℕ → List Check
 longChecks l y width bytes = must (sound l y) 8 (0 ∷ []) ∷ must (isWidth width) 21 (0 ∷ []) ∷ must (leb (y .trains) bytes) 10 (0 ∷ []) ∷ []

@@ -41,7 +41,7 @@ use Rattle.beam.specs.Result.{Says, beam-says, best-fitting}
 use Rattle.beam.specs.NothingCut.{SaysBest, beam-best}
 use Rattle.long_day.specs.LongDay.{longLimits}
 use Rattle.long_day.specs.LongLaws.{long-allowed}
-use Rattle.long_planning.specs.LongPlanning.{LongOutcome, mostWidth, isWidth, longChecks, foundAnswer, longPlanned, longRowAfter}
+use Rattle.long_planning.specs.LongPlanning.{LongOutcome, isWidth, longChecks, foundAnswer, longPlanned, longRowAfter}
 
 -- ---- what the search says of a sound long day, in allowed rows
 
@@ -77,10 +77,10 @@ module _ (y : Yard) (width : ℕ) (isSound : T (sound longLimits y)) (someWidth 
 
 -- ---- what the call answers and leaves where its checks hold
 
-module _ (y : Yard) (width : ℕ) (isSound : T (sound longLimits y)) (someWidth : 1 ≤ width) (fewWidth : width ≤ mostWidth) where
+module _ (y : Yard) (width : ℕ) (isSound : T (sound longLimits y)) (someWidth : 1 ≤ width) (fewWidth : width ≤ 64) where
   all-hold : (bytes : ℕ) → y .trains ≤ bytes → AllHold (longChecks longLimits y width bytes)
   all-hold bytes long =
-      (isSound, (both (leb 1 width) (leb width mostWidth) (le→leb 1 width someWidth) (le→leb width mostWidth fewWidth), (le→leb (y .trains) bytes long, tt)))
+      (isSound, (both (leb 1 width) (leb width 64) (le→leb 1 width someWidth) (le→leb width 64 fewWidth), (le→leb (y .trains) bytes long, tt)))
 
   pub long-planned : (bytes : ℕ) → y .trains ≤ bytes → longPlanned longLimits y width bytes ≡ foundAnswer y width (beamRow y width)
   unfolding longPlanned
@@ -95,7 +95,7 @@ module _ (y : Yard) (width : ℕ) (isSound : T (sound longLimits y)) (someWidth 
 -- ---- the sentences
 
 module _ (y : Yard) (width : ℕ) (row : List ℕ)
-    (isSound : T (sound longLimits y)) (someWidth : 1 ≤ width) (fewWidth : width ≤ mostWidth) (rowNamed : y .trains ≤ length row)
+    (isSound : T (sound longLimits y)) (someWidth : 1 ≤ width) (fewWidth : width ≤ 64) (rowNamed : y .trains ≤ length row)
     (said : Answer LongOutcome) (after : List ℕ)
     (contract : said ≡ longPlanned longLimits y width (length row)) (contractRow : after ≡ longRowAfter longLimits y width row) where
   says : said ≡ foundAnswer y width (beamRow y width)
@@ -199,15 +199,15 @@ module _ (y : Yard) (width bytes : ℕ) where
   unfolding longPlanned
   long-unsound e = rw e
 
-  pub long-width : T (sound longLimits y) → (width < 1) ⊎ (mostWidth < width) → longPlanned longLimits y width bytes ≡ refuses 21 (0 ∷ [])
+  pub long-width : T (sound longLimits y) → (width < 1) ⊎ (64 < width) → longPlanned longLimits y width bytes ≡ refuses 21 (0 ∷ [])
   unfolding longPlanned
   long-width s outside = rw (is-true (sound longLimits y) s, is-false (isWidth width) not-wide)
     where
       not-wide : T (isWidth width) → ⊥
       not-wide t =
-          let (some-width, few) = both-of (leb 1 width) (leb width mostWidth) t in
+          let (some-width, few) = both-of (leb 1 width) (leb width 64) t in
           let a = leb→le 1 width some-width in
-          let b = leb→le width mostWidth few in
+          let b = leb→le width 64 few in
           ⊎-elim (λ q. omega arith) (λ q. omega arith) outside
 
   pub long-short : T (sound longLimits y) → T (isWidth width) → bytes < y .trains → longPlanned longLimits y width bytes ≡ refuses 10 (0 ∷ [])
@@ -216,7 +216,7 @@ module _ (y : Yard) (width bytes : ℕ) where
 
 -- so a sound day gets 21, 10 or 9 and no other refusal, and 9 alone where the width and the row pass
 module _ (y : Yard) (width bytes : ℕ) (isSound : T (sound longLimits y)) where
-  pub long-found-only : 1 ≤ width → width ≤ mostWidth → y .trains ≤ bytes → Only (λ k carries. k ≡ 9) (longPlanned longLimits y width bytes)
+  pub long-found-only : 1 ≤ width → width ≤ 64 → y .trains ≤ bytes → Only (λ k carries. k ≡ 9) (longPlanned longLimits y width bytes)
   long-found-only some-width few long =
       subst (Only (λ k carries. k ≡ 9)) (sym (long-planned y width isSound some-width few bytes long)) (go (beamRow y width) refl)
     where
@@ -229,13 +229,13 @@ module _ (y : Yard) (width bytes : ℕ) (isSound : T (sound longLimits y)) where
       ⊎-elim
       (λ (a : 1 ≤ width).
       ⊎-elim
-      (λ (b : suc mostWidth ≤ width). is (long-width y width bytes isSound (inr b)) (inl refl))
-      (λ (b : width < suc mostWidth).
+      (λ (b : 65 ≤ width). is (long-width y width bytes isSound (inr b)) (inl refl))
+      (λ (b : width < 65).
       ⊎-elim
       (λ (c : y .trains ≤ bytes). only-wider (λ k carries. k ≡ 9) Any (longPlanned longLimits y width bytes) (λ k carries q. inr (inr q)) (long-found-only a (omega arith) c))
-      (λ (c : bytes < y .trains). is (long-short y width bytes isSound (both (leb 1 width) (leb width mostWidth) (le→leb 1 width a) (le→leb width mostWidth (omega arith))) c) (inr (inl refl)))
+      (λ (c : bytes < y .trains). is (long-short y width bytes isSound (both (leb 1 width) (leb width 64) (le→leb 1 width a) (le→leb width 64 (omega arith))) c) (inr (inl refl)))
       (le-or-lt (y .trains) bytes))
-      (le-or-lt (suc mostWidth) width))
+      (le-or-lt (65) width))
       (λ (a : width < 1). is (long-width y width bytes isSound (inl a)) (inl refl))
       (le-or-lt 1 width)
     where
@@ -274,4 +274,4 @@ long-beyond y width row = go (holding (longChecks longLimits y width (length row
     go false h = refl
     go true h =
         let (isSound, (wide, rest)) = holding-all (longChecks longLimits y width (length row)) (of-true h) in
-        past isSound (leb→le 1 width (both-of (leb 1 width) (leb width mostWidth) wide .0)) (beamRow y width) refl
+        past isSound (leb→le 1 width (both-of (leb 1 width) (leb width 64) wide .0)) (beamRow y width) refl

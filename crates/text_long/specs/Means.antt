@@ -34,7 +34,7 @@ use Rattle.telling.specs.Laws.{numbers-told, no-room, with-room}
 use Rattle.beam.specs.Beam.{fullSlots, beamRow}
 use Rattle.beam.specs.LowerFigure.{lowerFigure}
 use Rattle.long_day.specs.LongDay.{longLimits}
-use Rattle.long_planning.specs.LongPlanning.{LongOutcome, mostWidth, isWidth, foundAnswer, longPlanned, longRowAfter}
+use Rattle.long_planning.specs.LongPlanning.{LongOutcome, isWidth, foundAnswer, longPlanned, longRowAfter}
 use Rattle.long_planning.specs.Promised.{found-allowed, found-nowhere, found-lower, found-best, found-none, long-planned, long-row, long-width, long-short, long-kept, long-beyond}
 use Rattle.text_long.specs.TextLong.{longNumberCount, longFigures, longNumbersAfter, longDayFor, longPlanFor, longRowFor, slotsOf, longSlotsFor}
 
@@ -49,7 +49,7 @@ module _ (text : List ℕ) (y : Yard) (reads : readDay longLimits text ≡ gives
 
   -- ---- the checks
 
-  pub text-width : (width bytes : ℕ) → (width < 1) ⊎ (mostWidth < width) → longPlanFor text width bytes size ≡ refuses 21 (0 ∷ [])
+  pub text-width : (width bytes : ℕ) → (width < 1) ⊎ (64 < width) → longPlanFor text width bytes size ≡ refuses 21 (0 ∷ [])
   unfolding longPlanFor
   text-width width bytes outside = rw day (long-width y width bytes isSound outside)
 
@@ -59,7 +59,7 @@ module _ (text : List ℕ) (y : Yard) (reads : readDay longLimits text ≡ gives
 
   -- ---- what is found
 
-  module _ (width : ℕ) (row : List ℕ) (someWidth : 1 ≤ width) (fewWidth : width ≤ mostWidth) (rowNamed : y .trains ≤ length row) where
+  module _ (width : ℕ) (row : List ℕ) (someWidth : 1 ≤ width) (fewWidth : width ≤ 64) (rowNamed : y .trains ≤ length row) where
     answered : (found : Option (List ℕ)) → beamRow y width ≡ found → longPlanned longLimits y width (length row) ≡ foundAnswer y width found
     answered found e = long-planned y width isSound someWidth fewWidth (length row) rowNamed ∙ ap (foundAnswer y width) e
 

@@ -34,7 +34,7 @@ use Rattle.text_value.specs.TextValue.{valueText}
 use Rattle.long_day.specs.LongDay.{longLimits}
 use Rattle.long_value.specs.LongValued.{long-valued-only}
 use Rattle.long_planfile.specs.Size.{longPlanBytes}
-use Rattle.long_planning.specs.LongPlanning.{LongOutcome, mostWidth, longPlanned}
+use Rattle.long_planning.specs.LongPlanning.{LongOutcome, longPlanned}
 use Rattle.long_planning.specs.Promised.{long-found-only, long-only}
 use Rattle.long_answering.specs.LongAnswering.{longAnswerText, longAnswerWrites}
 use Rattle.text_long.specs.TextLong.{longNumberCount, longPlanFor}
@@ -66,7 +66,7 @@ module _ (text : List ℕ) where
         for-sound longLimits text OfLongReading zero-le of-text (λ k. (k ≡ 21) ⊎ ((k ≡ 10) ⊎ (k ≡ 9))) longNumberCount size (λ y. longPlanned longLimits y width bytes) room
         λ y s. long-only y width bytes s
 
-    pub long-plan-suffices : 1 ≤ width → width ≤ mostWidth → 36 ≤ bytes → let k = code (longPlanFor text width bytes size) in (k ≤ 7) ⊎ (k ≡ 9)
+    pub long-plan-suffices : 1 ≤ width → width ≤ 64 → 36 ≤ bytes → let k = code (longPlanFor text width bytes size) in (k ≤ 7) ⊎ (k ≡ 9)
     unfolding longPlanFor
     long-plan-suffices some-width few long =
         for-sound longLimits text OfLongReading zero-le of-text (λ k. k ≡ 9) longNumberCount size (λ y. longPlanned longLimits y width bytes) room
@@ -85,7 +85,7 @@ module _ (text : List ℕ) where
 
   -- ---- what a plan means
 
-  module _ (y : Yard) (reads : readDay longLimits text ≡ gives y) (size : ℕ) (room : 6 ≤ size) (width : ℕ) (someWidth : 1 ≤ width) (fewWidth : width ≤ mostWidth)
+  module _ (y : Yard) (reads : readDay longLimits text ≡ gives y) (size : ℕ) (room : 6 ≤ size) (width : ℕ) (someWidth : 1 ≤ width) (fewWidth : width ≤ 64)
       (row : List ℕ) (long : 36 ≤ length row) where
     few : y .trains ≤ length row
     few = omega (arith, sound-is longLimits y (read-sound longLimits text y reads) .trains .1)

@@ -10,7 +10,7 @@ use borrow.Author.Tests.{not-true, not-false, lt-leb, le-leb}
 use Rattle.fold.specs.Test.{of-true, both-of}
 use Rattle.day.specs.Sound.{sound}
 use Rattle.long_day.specs.LongDay.{longLimits, longYard}
-use Rattle.long_planning.specs.LongPlanning.{mostWidth, isWidth}
+use Rattle.long_planning.specs.LongPlanning.{isWidth}
 use Rattle.long_planning.specs.Laws.{Left, left-unsound, left-width, left-short, left-decided}
 use borrow.Author.Needs.{needs}
 use Rattle.long_planning.proofs.plan_long.Statement.{statement}
@@ -64,11 +64,11 @@ plan-sound-requires : tie.Need-plan-sound-requires
 plan-sound-requires c κs =
     let e = c .before .before .before in
     let a = origin e .args in
-    let (some-width, few-width) = both-of (leb 1 (a .width)) (leb (a .width) mostWidth) (of-true (wide e)) in
+    let (some-width, few-width) = both-of (leb 1 (a .width)) (leb (a .width) 64) (of-true (wide e)) in
     record {
       isSound = of-true (good (e .before .before));
       someWidth = leb→le 1 (a .width) some-width;
-      fewWidth = leb→le (a .width) mostWidth few-width;
+      fewWidth = leb→le (a .width) 64 few-width;
       long = c .before .if3 .left;
     }
 
