@@ -2,12 +2,11 @@
 -- Assumes nothing.
 use mathlib.Core.Path.{_≡_, refl, sym, ap, ap₂, _∙_}
 use mathlib.Core.Bool.{true, false}
-use mathlib.Core.List.{List, [], _∷_, _++_}
+use mathlib.Core.List.{List, [], _∷_}
 use mathlib.Core.Option.{none, some}
 use Prim.Native.Nat.{ℕ, _≤_}
 use lib.Dec.{T, leb}
-use lib.ListN.{length, take, drop, take-append-drop}
-use lib.Seq.{length-take-le}
+use lib.ListN.{length, take, drop}
 use Rattle.model.specs.Model.{Yard, outcome, boundInside}
 use Rattle.model.specs.Overbooked.{Interval, firstOverbooked}
 use Rattle.day.specs.Answer.{Answer, gives, refuses}
@@ -15,6 +14,7 @@ use Rattle.day.specs.Sound.{sound}
 use Rattle.day.specs.declared.Limits.{Limits}
 use Rattle.feasibility.specs.Bound.{Windows}
 use Rattle.planning.specs.Planning.{placed}
+use Rattle.planning.specs.Laws.{placed-front}
 use Rattle.beam.specs.Beam.{fullSlots, beamRow}
 use Rattle.beam.specs.LowerFigure.{lowerFigure}
 use Rattle.beam.specs.Shortcuts.{beam-none}
@@ -43,13 +43,8 @@ module _ (y : Yard) (width : ℕ) where
   pub says-plan : (row₀ row : List ℕ) (o : LongOutcome) → beamRow y width ≡ some (take (y .trains) row) → drop (y .trains) row ≡ drop (y .trains) row₀
       → y .trains ≤ length row → o ≡ record { row = outcome y (take (y .trains) row); full = fullSlots y width; lower = lowerFigure y }
       → Decided y width row₀ (gives o) row
-  says-plan row₀ row o b d long e = record {
-    says = ap gives e ∙ sym (ap (foundAnswer y width) b);
-    rowIs =
-        sym (take-append-drop (y .trains) row) ∙ ap (λ (r : List ℕ). take (y .trains) row ++ r) d
-        ∙ ap (λ k. take (y .trains) row ++ drop k row₀) (sym (length-take-le (y .trains) row long))
-        ∙ sym (ap (λ o. placed o row₀) b);
-  }
+  says-plan row₀ row o b d long e =
+      record { says = ap gives e ∙ sym (ap (foundAnswer y width) b); rowIs = placed-front (y .trains) (beamRow y width) row₀ row b d long }
 
 -- ---- the call
 

@@ -3,7 +3,7 @@
 use mathlib.Core.Path.{_≡_, refl, sym, ap, ap₂, _∙_, subst}
 use mathlib.Core.Bool.{true, false, _&&_}
 use mathlib.Core.List.{List, [], _∷_, _++_}
-use mathlib.Core.Option.{none, some}
+use mathlib.Core.Option.{Option, none, some}
 use Prim.Native.Nat.{ℕ, _*_, _^_, _≤_}
 use lib.ListN.{length, take, drop, take-append-drop}
 use lib.Seq.{length-take-le}
@@ -15,6 +15,11 @@ use Rattle.day.specs.Sound.{sound}
 use Rattle.day.specs.declared.Limits.{Limits}
 use Rattle.feasibility.specs.RowOrNone.{some-no-row}
 use Rattle.planning.specs.Planning.{costWords, choiceWords, bestAnswer, suffices, planned, begins, placed, rowAfter, openWords, Stays}
+
+-- a row that is found stands in the first n bytes, and the bytes beyond are those lent
+pub placed-front : (n : ℕ) (found : Option (List ℕ)) (row₀ row : List ℕ) → found ≡ some (take n row) → drop n row ≡ drop n row₀ → n ≤ length row → row ≡ placed found row₀
+placed-front n found row₀ row e beyond long =
+    sym (take-append-drop n row) ∙ ap (λ (r : List ℕ). take n row ++ r) beyond ∙ ap (λ k. take n row ++ drop k row₀) (sym (length-take-le n row long)) ∙ sym (ap (λ o. placed o row₀) e)
 
 -- ---- the answers, from what the code has found
 
@@ -31,12 +36,7 @@ module _ (y : Yard) where
   -- the best row stands in the first n bytes
   pub says-plan : (row₀ row : List ℕ) → bestOf y ≡ some (take (y .trains) row) → drop (y .trains) row ≡ drop (y .trains) row₀ → y .trains ≤ length row
       → (gives (outcome y (take (y .trains) row)) ≡ bestAnswer y (bestOf y)) × (row ≡ placed (bestOf y) row₀)
-  says-plan row₀ row b d long = (
-    rw b,
-    sym (take-append-drop (y .trains) row) ∙ ap (λ (r : List ℕ). take (y .trains) row ++ r) d
-        ∙ ap (λ k. take (y .trains) row ++ drop k row₀) (sym (length-take-le (y .trains) row long))
-        ∙ sym (ap (λ o. placed o row₀) b),
-  )
+  says-plan row₀ row b d long = (rw b, placed-front (y .trains) (bestOf y) row₀ row b d long)
 
 -- a sound day with areas that suffice: the best plan, 9 or 16
 pub record Decided (y : Yard) (size : ℕ) (cost₀ choice₀ row₀ : List ℕ) (said : Answer Outcome) (cost choice row : List ℕ) : Type 0 where

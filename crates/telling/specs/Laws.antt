@@ -9,7 +9,8 @@ use lib.Dec.{leb}
 use lib.ListN.{length, set, drop}
 use borrow.Author.Tests.{le-leb, lt-leb}
 use Rattle.model.specs.Model.{Yard, Outcome}
-use Rattle.day.specs.Answer.{Answer, gives, refuses, refusal, code, number, carried}
+use Rattle.day.specs.Answer.{Answer, gives, refuses, refusal, code, number, carried, must}
+use Rattle.day.specs.AnswerLaws.{gives-same, checked-gives}
 use Rattle.day.specs.declared.Limits.{Limits}
 use Rattle.day.specs.declared.Refusal.{Refusal}
 use Rattle.refusals.specs.Numbers.{Tells, no-more}
@@ -62,6 +63,10 @@ module _ (count : ℕ) (l : Limits) (text : List ℕ) (size : ℕ) where
 
   pub with-room : leb count size ≡ true → {a : Answer Yard} → readDay l text ≡ a → dayWith count l text size ≡ a
   with-room h e = rw h e
+
+  -- a day for a caller with room is the one that is read
+  pub day-read : (y z : Yard) → dayWith count l text size ≡ gives y → readDay l text ≡ gives z → z ≡ y
+  day-read y z e r = gives-same (sym r ∙ checked-gives (must (leb count size) 10 (0 ∷ []) ∷ []) (readDay l text) y e .1)
 
 -- ---- the header's words: so many numbers, or what the refusal carries and then zeros; those beyond stay
 

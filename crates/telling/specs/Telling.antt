@@ -7,7 +7,7 @@ use Prim.Native.Nat.{ℕ, zero, suc}
 use lib.Dec.{leb}
 use lib.ListN.{length, getD, drop}
 use Rattle.model.specs.Model.{Yard, Outcome}
-use Rattle.day.specs.Answer.{Answer, gives, refuses, onGiven, must, checked}
+use Rattle.day.specs.Answer.{Answer, gives, refuses, onGiven, whereGiven, must, checked}
 use Rattle.day.specs.declared.Limits.{Limits}
 use Rattle.counting.specs.Counting.{figuresOf}
 use Rattle.dayfile.specs.Reading.{readDay}
@@ -50,3 +50,7 @@ numbersTold = toldBy numberCount figuresOf
 
 abbrev pub numbersAfter : Answer Outcome → List ℕ → List ℕ
 numbersAfter = afterBy numberCount figuresOf
+
+-- the slots written where a plan is told: as many as the day has trains, or none
+abbrev pub slotsIn : {X : Type 0} → Yard → Answer X → ℕ
+slotsIn y a = whereGiven a 0 λ o. y .trains

@@ -13,12 +13,12 @@ use Rattle.day.specs.declared.Refusal.{Refusal}
 use Rattle.refusals.specs.Numbers.{no-more}
 use Rattle.counting.specs.Counting.{figuresOf}
 use Rattle.dayfile.specs.Reading.{readDay}
-use Rattle.telling.specs.Telling.{numbersTold}
+use Rattle.telling.specs.Telling.{numbersTold, slotsIn}
 use Rattle.telling.specs.Laws.{ToldBy, Told, told-values, told-same, told-after, numbers-kept, no-room, with-room}
 use Rattle.long_day.specs.LongDay.{longLimits}
 use Rattle.long_planning.specs.LongPlanning.{LongOutcome}
 use Rattle.long_planning.specs.Laws.{Left}
-use Rattle.text_long.specs.TextLong.{longNumberCount, longFigures, longNumbersAfter, longPlanFor, longRowFor, slotsOf, longSlotsFor}
+use Rattle.text_long.specs.TextLong.{longNumberCount, longFigures, longNumbersAfter, longPlanFor, longRowFor, longSlotsFor}
 
 -- ---- six numbers: four stored at the front, and two behind them
 
@@ -49,7 +49,7 @@ pub record PlansLongDay (y : Yard) (width : ℕ) (row₀ numbers₀ : List ℕ) 
   pub said : Answer LongOutcome
   pub left : Left longLimits y width row₀ said row
   pub told : LongTold numbers₀ said returned numbers
-  pub written : trains ≡ slotsOf y said
+  pub written : trains ≡ slotsIn y said
 
 -- ---- the call
 
@@ -79,4 +79,4 @@ module _ (text : List ℕ) (width : ℕ) (row numbers : List ℕ) where
   plans-day y h f p =
       let e = with-room longNumberCount longLimits text (length numbers) h f in
       let t = told-same (p .left .says) (p .told) in
-      record { says = rw e (t .says); numbersAre = rw e (told-after h t); rowIs = rw e (p .left .rowIs); written = rw e (p .written ∙ ap (slotsOf y) (p .left .says)) }
+      record { says = rw e (t .says); numbersAre = rw e (told-after h t); rowIs = rw e (p .left .rowIs); written = rw e (p .written ∙ ap (slotsIn y) (p .left .says)) }

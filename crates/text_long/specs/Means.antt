@@ -24,19 +24,19 @@ use borrow.Author.Tests.{le-leb, lt-leb}
 use Rattle.model.specs.Model.{Yard, outcome, cost, boundInside, allowed, Best, SomeRow, NoRow, FirstOverbooked}
 use Rattle.model.specs.Rows.{allowed-is}
 use Rattle.model.specs.Overbooked.{SaysFirst, first-says}
-use Rattle.day.specs.Answer.{Answer, gives, refuses, must}
-use Rattle.day.specs.AnswerLaws.{gives-same, checked-gives}
+use Rattle.day.specs.Answer.{Answer, gives, refuses}
 use Rattle.day.specs.Sound.{sound}
 use Rattle.dayfile.specs.Reading.{readDay}
 use Rattle.dayfile.specs.RoundTrip.{read-sound}
 use Rattle.planning.specs.Planning.{noRow, placed}
-use Rattle.telling.specs.Laws.{numbers-told, no-room, with-room}
+use Rattle.telling.specs.Telling.{slotsIn}
+use Rattle.telling.specs.Laws.{numbers-told, no-room, with-room, day-read}
 use Rattle.beam.specs.Beam.{fullSlots, beamRow}
 use Rattle.beam.specs.LowerFigure.{lowerFigure}
 use Rattle.long_day.specs.LongDay.{longLimits}
 use Rattle.long_planning.specs.LongPlanning.{LongOutcome, isWidth, foundAnswer, longPlanned, longRowAfter}
 use Rattle.long_planning.specs.Promised.{found-allowed, found-nowhere, found-lower, found-best, found-none, long-planned, long-row, long-width, long-short, long-kept, long-beyond}
-use Rattle.text_long.specs.TextLong.{longNumberCount, longFigures, longNumbersAfter, longDayFor, longPlanFor, longRowFor, slotsOf, longSlotsFor}
+use Rattle.text_long.specs.TextLong.{longNumberCount, longFigures, longNumbersAfter, longDayFor, longPlanFor, longRowFor, longSlotsFor}
 
 -- ---- the day of the text, with room for six numbers
 
@@ -86,7 +86,7 @@ module _ (text : List ℕ) (y : Yard) (reads : readDay longLimits text ≡ gives
           bestIfNoneFull = found-best y width isSound someWidth r e;
           says = rw day (answered (some r) e);
           rowIs = rw day (left (some r) e ∙ ap (λ k. r ++ drop k row) (allowed-is y r ok .long));
-          count = rw day (ap (slotsOf y) (answered (some r) e));
+          count = rw day (ap (slotsIn y) (answered (some r) e));
         }
 
     pub plans-found : SomeRow y → (r : List ℕ) × Planned r
@@ -119,7 +119,7 @@ module _ (text : List ℕ) (y : Yard) (reads : readDay longLimits text ≡ gives
               named = subst (SaysFirst y) f (first-says y);
               says = rw day said;
               rowIs = rw day (left none e);
-              count = rw day (ap (slotsOf y) said);
+              count = rw day (ap (slotsIn y) said);
             }
 
     -- so where six numbers are given they are such a row's
@@ -149,16 +149,12 @@ module _ (text : List ℕ) (width : ℕ) (row : List ℕ) (size : ℕ) where
   unfolding longPlanFor longRowFor longSlotsFor
   text-memory = go (longDayFor text size) refl
     where
-      -- a day for a caller with room is the one read
-      same : (y z : Yard) → longDayFor text size ≡ gives y → readDay longLimits text ≡ gives z → z ≡ y
-      same y z e r = gives-same (sym r ∙ checked-gives (must (leb longNumberCount size) 10 (0 ∷ []) ∷ []) (readDay longLimits text) y e .1)
-
       go : (a : Answer Yard) → longDayFor text size ≡ a → TextMemory
       go (refuses k carries) e = record { kept = λ m values q. rw e; beyond = λ y r. rw e; none = λ m values q. rw e }
       go (gives y) e = record {
         kept = λ k values q. rw e (long-kept y width row (rw e at q));
-        beyond = λ z r. let is = same y z e r in rw (e, is) (long-beyond y width row);
-        none = λ k values q. let r : longPlanned longLimits y width (length row) ≡ refuses k values = rw e at q in rw e (ap (slotsOf y) r);
+        beyond = λ z r. let is = day-read longNumberCount longLimits text size y z e r in rw (e, is) (long-beyond y width row);
+        none = λ k values q. let r : longPlanned longLimits y width (length row) ≡ refuses k values = rw e at q in rw e (ap (slotsIn y) r);
       }
 
 -- ---- the header's words: six numbers, or what the refusal carries and then zeros; those beyond stay

@@ -7,7 +7,7 @@ use Prim.Native.Nat.{ℕ}
 use Rattle.model.specs.Model.{Yard}
 use Rattle.day.specs.Answer.{Answer, onGiven, whereGiven}
 use Rattle.counting.specs.Counting.{figuresOf}
-use Rattle.telling.specs.Telling.{dayWith, toldBy, afterBy}
+use Rattle.telling.specs.Telling.{dayWith, toldBy, afterBy, slotsIn}
 use Rattle.long_day.specs.LongDay.{longLimits}
 use Rattle.long_planning.specs.LongPlanning.{LongOutcome, longPlanned, longRowAfter}
 
@@ -36,9 +36,5 @@ longPlanFor text width bytes size = onGiven (longDayFor text size) λ y. longPla
 unfoldable pub longRowFor : List ℕ → ℕ → ℕ → List ℕ → List ℕ
 longRowFor text width size row = whereGiven (longDayFor text size) row λ y. longRowAfter longLimits y width row
 
--- the slots written: as many as the day has trains, or none
-abbrev pub slotsOf : Yard → Answer LongOutcome → ℕ
-slotsOf y a = whereGiven a 0 λ o. y .trains
-
 unfoldable pub longSlotsFor : List ℕ → ℕ → ℕ → ℕ → ℕ
-longSlotsFor text width bytes size = whereGiven (longDayFor text size) 0 λ y. slotsOf y (longPlanned longLimits y width bytes)
+longSlotsFor text width bytes size = whereGiven (longDayFor text size) 0 λ y. slotsIn y (longPlanned longLimits y width bytes)

@@ -13,9 +13,9 @@ use Rattle.day.specs.declared.Refusal.{Refusal}
 use Rattle.dayfile.specs.Reading.{readDay}
 use Rattle.planning.specs.Planning.{costWords, choiceWords, Stays}
 use Rattle.planning.specs.Laws.{Left}
-use Rattle.telling.specs.Telling.{numberCount, numbersAfter}
+use Rattle.telling.specs.Telling.{numberCount, numbersAfter, slotsIn}
 use Rattle.telling.specs.Laws.{Told, told-same, told-after, none-told, no-room, with-room}
-use Rattle.text_plan.specs.TextPlan.{planFor, rowFor, openFor, slotsIn, slotsFor}
+use Rattle.text_plan.specs.TextPlan.{planFor, rowFor, openFor, slotsFor}
 
 -- ---- a day that was read, where there is room for four numbers: what planning answers and leaves, and that it is told
 

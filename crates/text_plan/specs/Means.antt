@@ -18,8 +18,7 @@ use Rattle.model.specs.Model.{Yard, Outcome, outcome, boundInside, Best, SomeRo
 use Rattle.model.specs.Rows.{allowed-is}
 use Rattle.model.specs.BestOf.{bestOf, is-best, is-none, none-is}
 use Rattle.model.specs.Overbooked.{Interval, firstOverbooked, SaysFirst, first-says}
-use Rattle.day.specs.Answer.{Answer, gives, refuses, must, checked}
-use Rattle.day.specs.AnswerLaws.{gives-same, checked-gives}
+use Rattle.day.specs.Answer.{Answer, gives, refuses}
 use Rattle.day.specs.declared.Limits.{Limits}
 use Rattle.dayfile.specs.Reading.{readDay}
 use Rattle.dayfile.specs.RoundTrip.{read-sound}
@@ -27,9 +26,9 @@ use Rattle.feasibility.specs.RowOrNone.{none-spacious}
 use Rattle.planning.specs.Planning.{costWords, choiceWords, noRow, bestAnswer, NoRowRefusal, planned, begins, placed, rowAfter, Stays}
 use Rattle.planning.specs.Answers.{none-answer, planned-begun, row-begun, refuses-only}
 use Rattle.planning.specs.Demand.{memory-suffices, memory-after}
-use Rattle.telling.specs.Telling.{numberCount, dayFor}
-use Rattle.telling.specs.Laws.{with-room}
-use Rattle.text_plan.specs.TextPlan.{planFor, rowFor, openFor, slotsIn, slotsFor}
+use Rattle.telling.specs.Telling.{numberCount, dayFor, slotsIn}
+use Rattle.telling.specs.Laws.{with-room, day-read}
+use Rattle.text_plan.specs.TextPlan.{planFor, rowFor, openFor, slotsFor}
 
 module _ (l : Limits) (text : List ℕ) (y : Yard) (reads : readDay l text ≡ gives y) (costs choices size : ℕ) (row : List ℕ)
     (room : 4 ≤ size) (costsNamed : 2 ^ y .trains ≤ costs) (choicesNamed : y .slots * 2 ^ y .trains ≤ choices) (rowNamed : y .trains ≤ length row) where
@@ -126,13 +125,6 @@ module _ (l : Limits) (text cost choice row : List ℕ) (size : ℕ) (costAfter 
   unfolding planFor rowFor openFor slotsFor
   text-memory = go (dayFor l text size) refl
     where
-      -- a day for a caller with room is the one read
-      same : (a : Answer Yard) (y z : Yard) → a ≡ gives y → checked (must (leb numberCount size) 10 (0 ∷ []) ∷ []) a ≡ gives z → y ≡ z
-      same a y z e f = gives-same (sym e ∙ checked-gives (must (leb numberCount size) 10 (0 ∷ []) ∷ []) a z f .1)
-
-      untold : (y : Yard) (a : Answer Outcome) (k : ℕ) (carries : List ℕ) → a ≡ refuses k carries → slotsIn y a ≡ 0
-      untold y a k carries e = ap (slotsIn y) e
-
       two : {k : ℕ} → (k ≡ 8) ⊎ ((k ≡ 10) ⊎ NoRowRefusal k) → (NoRowRefusal k → ⊥) → (k ≡ 8) ⊎ (k ≡ 10)
       two (inl a) n = inl a
       two (inr (inl b)) n = inr b
@@ -154,6 +146,6 @@ module _ (l : Limits) (text cost choice row : List ℕ) (size : ℕ) (costAfter 
                 let u = m .unchanged r (two (refuses-only l y (length cost) (length choice) (length row) r) n) in
                 (u .0, (u .1 .0, rw e (u .1 .1)));
             rowKept = λ k values q n. let r : answer ≡ refuses k values = rw e at q in rw e (m .rowKept r n);
-            beyond = λ z r. let is : z ≡ y = same (readDay l text) z y r e in rw is (m .costBeyond, m .choiceBeyond);
-            none = λ k values q. let r : answer ≡ refuses k values = rw e at q in rw e (untold y answer k values r);
+            beyond = λ z r. let is = day-read numberCount l text size y z e r in rw is (m .costBeyond, m .choiceBeyond);
+            none = λ k values q. let r : answer ≡ refuses k values = rw e at q in rw e (ap (slotsIn y) r);
           }

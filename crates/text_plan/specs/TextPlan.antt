@@ -4,10 +4,10 @@
 use mathlib.Core.List.{List}
 use Prim.Native.Nat.{ℕ}
 use Rattle.model.specs.Model.{Yard, Outcome}
-use Rattle.day.specs.Answer.{Answer, gives, refuses, whereGiven}
+use Rattle.day.specs.Answer.{Answer, whereGiven}
 use Rattle.day.specs.declared.Limits.{Limits}
 use Rattle.planning.specs.Planning.{planned, begins, rowAfter, openWords}
-use Rattle.telling.specs.Telling.{dayFor, forDay}
+use Rattle.telling.specs.Telling.{dayFor, forDay, slotsIn}
 
 -- the caller lends so many words of cost, words of choice, bytes of row and numbers
 unfoldable pub planFor : Limits → List ℕ → ℕ → ℕ → ℕ → ℕ → Answer Outcome
@@ -19,11 +19,6 @@ rowFor l text costs choices size row = whereGiven (dayFor l text size) row λ y.
 -- the words of an area that may hold anything
 unfoldable pub openFor : (Yard → ℕ) → Limits → List ℕ → ℕ → ℕ → ℕ → ℕ → ℕ
 openFor words l text costs choices bytes size = whereGiven (dayFor l text size) 0 λ y. openWords (begins l y costs choices bytes) (words y)
-
--- the slots written: as many as the day has trains, or none
-abbrev pub slotsIn : Yard → Answer Outcome → ℕ
-slotsIn y (gives o) = y .trains
-slotsIn y (refuses k carries) = 0
 
 unfoldable pub slotsFor : Limits → List ℕ → ℕ → ℕ → ℕ → ℕ → ℕ
 slotsFor l text costs choices bytes size = whereGiven (dayFor l text size) 0 λ y. slotsIn y (planned l y costs choices bytes)
