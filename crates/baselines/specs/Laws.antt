@@ -17,6 +17,11 @@ use Rattle.baselines.specs.Baselines.{compared}
 
 -- ---- the answer, from planning's
 
+pub compared-planned : (l : Limits) (y : Yard) (row : List ℕ) (costs choices : ℕ) {o : Outcome} → planned l y costs choices (y .trains) ≡ gives o
+    → compared l y row costs choices ≡ against y row (o .cost)
+unfolding compared
+compared-planned l y row costs choices e = rw e
+
 module _ (l : Limits) (y : Yard) (row : List ℕ) (costs choices : ℕ) {b : Baseline} where
   pub says-against : {o : Outcome} → planned l y costs choices (y .trains) ≡ gives o → Says (against y row (o .cost)) b → Says (compared l y row costs choices) b
   unfolding compared

@@ -26,7 +26,7 @@ pub enum Procedure {
 }
 
 // Plans a day for its cost alone: the row is local, and long enough for every sound day.
-fn plan_cost(day: Day, cost: &mut [u64], choice: &mut [u16]) -> Planned
+pub fn plan_cost(day: Day, cost: &mut [u64], choice: &mut [u16]) -> Planned
     ensures { λ r. ⌜ planAnswer r ≡ planned dayLimits (yard day) (length (now (cost .entry))) (length (now (choice .entry))) (day .trains) ⌝ }
     ensures { λ r. ⌜ Stays (openCosts dayLimits (yard day) (length (now (cost .entry))) (length (now (choice .entry)))) (now (cost .entry)) (now (cost .exit)) ⌝ }
     ensures { λ r. ⌜ Stays (openChoices dayLimits (yard day) (length (now (cost .entry))) (length (now (choice .entry)))) (now (choice .entry)) (now (choice .exit)) ⌝ }
@@ -65,7 +65,8 @@ fn fill_row(procedure: Procedure, day: Day, row: &mut [u8])
     }
 }
 
-fn compare_with(procedure: Procedure, day: Day, best: u64) -> Baseline
+// A procedure's row on a sound day, against a planned cost.
+pub fn compare_with(procedure: Procedure, day: Day, best: u64) -> Baseline
     requires { ⌜ T (sound dayLimits (yard day)) × (best < 2 ^ 63) ⌝ }
     ensures { λ r. ⌜ Says (against (yard day) (rowBy procedure (yard day)) best) r ⌝ }
 {

@@ -5,16 +5,16 @@
 use mathlib.Core.Path.{_≡_, refl, sym, ap, _∙_, subst}
 use mathlib.Core.Bool.{Bool, true, false, cond, _&&_}
 use mathlib.Core.List.{List, [], _∷_}
-use mathlib.Core.Logic.{_⊎_, inl, inr}
+use mathlib.Core.Logic.{_⊎_, inl, inr, ⊎-elim}
 use mathlib.Core.Option.{Option, none, some}
-use Prim.Native.Nat.{ℕ, _^_, _≤_}
+use Prim.Native.Nat.{ℕ, _^_, _≤_, _<_}
 use native.Mathlib.Nat.{mul-le-mul}
 use native.Mathlib.Omega.{arith}
-use lib.Dec.{T, leb, le→leb}
+use lib.Dec.{T, leb, leb→le, le→leb}
 use lib.ListN.{length}
 use lib.Pow.{pow-mono}
 use borrow.Author.Tests.{le-leb}
-use Rattle.fold.specs.Test.{is-true, of-true, both, both-of}
+use Rattle.fold.specs.Test.{is-true, of-true, is-false, both, both-of}
 use Rattle.model.specs.Model.{Yard, Outcome, outcome, Best}
 use Rattle.model.specs.Moves.{AllMoved, all-moved}
 use Rattle.model.specs.BestOf.{bestOf, is-best}
@@ -24,7 +24,7 @@ use Rattle.day.specs.AnswerLaws.{gives-same, checked-holds, checked-gives, Only
 use Rattle.day.specs.Sound.{dayLimits, sound}
 use Rattle.day.specs.SoundLaws.{sound-is}
 use Rattle.day.specs.declared.Limits.{Limits}
-use Rattle.planning.specs.Planning.{costWords, choiceWords, costArea, choiceArea, suffices, noRow, NoRowRefusal, bestAnswer, planChecks, planned, begins, placed, rowAfter}
+use Rattle.planning.specs.Planning.{costWords, choiceWords, costArea, choiceArea, areasSuffice, suffices, noRow, NoRowRefusal, bestAnswer, planChecks, planned, begins, placed, rowAfter}
 
 -- ---- where no row is allowed
 
@@ -67,6 +67,19 @@ module _ (l : Limits) (y : Yard) (costs choices : ℕ) where
   pub row-begun : (row : List ℕ) → T (begins l y costs choices (length row)) → rowAfter l y costs choices row ≡ placed (bestOf y) row
   unfolding rowAfter
   row-begun row begun = ap (λ b. cond b (placed (bestOf y) row) row) (is-true (begins l y costs choices (length row)) begun)
+
+-- ---- areas in which every day can be planned
+
+pub areas-short : (costs choices : ℕ) → (costs < 4096) ⊎ (choices < 32768) → areasSuffice costs choices ≡ false
+areas-short costs choices h =
+    is-false (areasSuffice costs choices) (λ t.
+    let (p, q) = both-of (leb 4096 costs) (leb 32768 choices) t in
+    let p = leb→le 4096 costs p in
+    let q = leb→le 32768 choices q in
+    ⊎-elim (λ (g : costs < 4096). omega arith) (λ (g : choices < 32768). omega arith) h)
+
+pub areas-enough : (costs choices : ℕ) → 4096 ≤ costs → 32768 ≤ choices → T (areasSuffice costs choices)
+areas-enough costs choices a b = both (leb 4096 costs) (leb 32768 choices) (le→leb 4096 costs a) (le→leb 32768 choices b)
 
 -- the areas that callers without areas of their own lend
 pub areas-suffice : (y : Yard) (bytes : ℕ) → T (sound dayLimits y) → y .trains ≤ bytes → T (begins dayLimits y costArea choiceArea bytes)

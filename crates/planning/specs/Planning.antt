@@ -33,12 +33,16 @@ costWords y = 2 ^ y .trains
 abbrev pub choiceWords : Yard → ℕ
 choiceWords y = y .slots * 2 ^ y .trains
 
--- words that suffice for every day: callers that are lent no areas have their own of this size
+-- words that suffice for every day: callers that are lent no areas have their own of this size, and calls that plan several days or a changing
+-- one need as many, whatever the trains are
 abbrev pub costArea : ℕ
 costArea = 4096
 
 abbrev pub choiceArea : ℕ
 choiceArea = 32768
+
+abbrev pub areasSuffice : ℕ → ℕ → Bool
+areasSuffice costs choices = leb costArea costs && leb choiceArea choices
 
 -- the areas and the row are long enough
 abbrev pub suffices : Yard → ℕ → ℕ → ℕ → Bool

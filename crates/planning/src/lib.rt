@@ -9,7 +9,7 @@ ghost use mathlib.Core.Bool.{_&&_};
 ghost use lib.Dec.{T, leb};
 ghost use lib.ListN.{length};
 ghost use Rattle.day.specs.Sound.{dayLimits, yard, sound};
-ghost use Rattle.planning.specs.Planning.{answer, costWords, choiceWords, planned, begins, rowAfter, openWords, Stays};
+ghost use Rattle.planning.specs.Planning.{answer, costWords, choiceWords, areasSuffice, planned, begins, rowAfter, openWords, Stays};
 ghost use Rattle.planning.specs.Laws.{Decided};
 use counting::Value;
 use day::Day;
@@ -36,6 +36,13 @@ fn are_enough(n: usize, slots: u8, size: usize, costs: usize, choices: usize, by
 {
     let words = slots as usize * size;
     (size <= costs) & (words <= choices) & (n <= bytes)
+}
+
+// Whether the two areas have the words that every day can be planned in. Calls that plan several days or a changing one ask for these.
+pub fn are_areas_enough(costs: usize, choices: usize) -> bool
+    ensures { λ r. ⌜ r ≡ areasSuffice costs choices ⌝ }
+{
+    (4096 <= costs) & (32768 <= choices)
 }
 
 // The plan of a sound day, or the first overbooked interval (9), or that the groups can't be kept (16).

@@ -68,5 +68,6 @@ pub fn in_numbers(refusal: Refusal) -> Numbered
         Refusal::TrainNotAddable => carrying(19, 0),
         Refusal::NoOpenSlot => carrying(20, 0),
         Refusal::WidthOutOfRange => carrying(21, 0),
+        Refusal::TooManyDays => carrying(22, 0),
     }
 }

@@ -11,8 +11,8 @@ use Rattle.fold.specs.Column.{column}
 use Rattle.model.specs.Model.{Yard, Outcome, slotOf}
 use Rattle.day.specs.Answer.{Answer, gives, refuses, onGiven}
 use Rattle.day.specs.Sound.{dayLimits, sound}
-use Rattle.planning.specs.Planning.{planned, rowAfter}
-use Rattle.rolling.specs.Rolling.{Account, stateOf, cut, bestPlan, areasSuffice, begunAccount, begun, begunBegins}
+use Rattle.planning.specs.Planning.{areasSuffice, planned, rowAfter}
+use Rattle.rolling.specs.Rolling.{Account, stateOf, cut, bestPlan, begunAccount, begun, begunBegins}
 use Rattle.rolling.specs.Cut.{Standing, cut-sound}
 use Rattle.rolling.specs.Follows.{begun-cut}
 use Rattle.rolling.specs.Replanned.{plan-replanned, plan-refused}

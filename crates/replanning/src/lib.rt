@@ -8,8 +8,8 @@ ghost use mathlib.Core.Bool.{true};
 ghost use lib.Dec.{T};
 ghost use lib.ListN.{length};
 ghost use Rattle.day.specs.Sound.{dayLimits, yard};
-ghost use Rattle.planning.specs.Planning.{costArea, choiceArea, openWords, Stays};
-ghost use Rattle.rolling.specs.Rolling.{areasSuffice, begun, begunBegins, orBefore};
+ghost use Rattle.planning.specs.Planning.{costArea, choiceArea, areasSuffice, openWords, Stays};
+ghost use Rattle.rolling.specs.Rolling.{begun, begunBegins, orBefore};
 ghost use Rattle.rolling.specs.Cut.{Standing};
 ghost use Rattle.rolling_state.specs.States.{stateIn, answer, zeroState};
 ghost use Rattle.account_edits.specs.Accounts.{accountIn};
@@ -20,13 +20,6 @@ use day::Refusal;
 use planning::Planned;
 use rolling_state::Rolled;
 use rolling_state::RollingState;
-
-// Whether the two areas have the words that a changing day needs, whatever its trains are.
-pub fn are_areas_enough(costs: usize, choices: usize) -> bool
-    ensures { λ r. ⌜ r ≡ areasSuffice costs choices ⌝ }
-{
-    (4096 <= costs) & (32768 <= choices)
-}
 
 // The state of the best plan that keeps served trains in their slots and puts all others into open ones; where there is none, 9 or 16 and the
 // state before.
@@ -66,7 +59,7 @@ pub fn begin(day: Day, cost: &mut [u64], choice: &mut [u16]) -> Rolled
     if !day_sound::is_sound(day) {
         return rolling_state::refused(zeros, Refusal::Unsound);
     }
-    if !are_areas_enough(cost.len(), choice.len()) {
+    if !planning::are_areas_enough(cost.len(), choice.len()) {
         return rolling_state::refused(zeros, Refusal::TooShort);
     }
     let none_served = [0u8; 12];

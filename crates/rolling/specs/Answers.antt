@@ -22,8 +22,8 @@ use Rattle.day.specs.Answer.{Answer, gives, refuses, onGiven}
 use Rattle.day.specs.AnswerLaws.{AllHold, gives-same, checked-gives, checked-holds, given-before, Only, OnlyChecks, only-given, only-after}
 use Rattle.day.specs.declared.Limits.{Limits}
 use Rattle.feasibility.specs.RowOrNone.{none-spacious}
-use Rattle.planning.specs.Planning.{noRow, bestRow}
-use Rattle.rolling.specs.Rolling.{Account, State, planOf, accountOf, stateOf, Change, cancel, add, setBoxes, edited, cut, KeptRow, bestPlan, Call, close, change, areasSuffice, changeChecks, callChecks, stateSound, stateMade, stateChecks, stateAfter, begun}
+use Rattle.planning.specs.Planning.{areasSuffice, noRow, bestRow}
+use Rattle.rolling.specs.Rolling.{Account, State, planOf, accountOf, stateOf, Change, cancel, add, setBoxes, edited, cut, KeptRow, bestPlan, Call, close, change, changeChecks, callChecks, stateSound, stateMade, stateChecks, stateAfter, begun}
 use Rattle.rolling.specs.Cut.{Standing, keeps-cut, cut-keeps}
 use Rattle.rolling.specs.Changes.{change-standing, NoNewTrain, row-left}
 use Rattle.rolling.specs.States.{sound-state, state-sound, state-standing, plan-keeps, closed-sound}

@@ -18,11 +18,11 @@ use Rattle.day.specs.AnswerLaws.{checked-gives, checked-holds}
 use Rattle.day.specs.Sound.{sound}
 use Rattle.day.specs.declared.Limits.{Limits}
 use Rattle.planning.specs.Planning.{bestRow}
+use Rattle.planning.specs.Answers.{areas-short, areas-enough}
 use Rattle.rolling.specs.Rolling.{State, planOf, stateOf, bestPlan, begunAccount, begunChecks, begun}
 use Rattle.rolling.specs.Cut.{kept-best}
 use Rattle.rolling.specs.Follows.{begun-standing, begun-cut, begin-follows}
 use Rattle.rolling.specs.Answers.{Nine, Sixteen, none-refused}
-use Rattle.rolling.specs.Exactly.{areas-short, areas-enough}
 
 module _ (l : Limits) (y : Yard) (costs choices : ℕ) where
   -- ---- a day that is begun

@@ -23,7 +23,9 @@ use Rattle.day.specs.AnswerLaws.{AllHold}
 use Rattle.day.specs.Sound.{dayLimits, within, trainRanges}
 use Rattle.day.specs.SoundDay.{SoundDay, numberAt, sound-day}
 use Rattle.day.specs.SoundLaws.{within-is, is-within}
-use Rattle.rolling.specs.Rolling.{Account, State, accountOf, placeOf, isListed, Change, cancel, add, setBoxes, edited, areasSuffice, numberIn, Call, close, change, changeChecks, stateSound, stateAfter}
+use Rattle.planning.specs.Planning.{areasSuffice}
+use Rattle.planning.specs.Answers.{areas-short, areas-enough}
+use Rattle.rolling.specs.Rolling.{Account, State, accountOf, placeOf, isListed, Change, cancel, add, setBoxes, edited, numberIn, Call, close, change, changeChecks, stateSound, stateAfter}
 use Rattle.rolling.specs.Places.{listed-there}
 use Rattle.rolling.specs.States.{SoundState, sound-state, state-sound, at-closed, at-open, in-window}
 use Rattle.rolling.specs.Answers.{always-taken}
@@ -37,19 +39,6 @@ pub record Listed (y : Yard) (x : ℕ) : Type 0 where
 
 abbrev pub Unlisted : Yard → ℕ → Type 0
 Unlisted y x = (i : ℕ) → i < y .trains → numberAt y i ≢ x
-
--- ---- the two areas
-
-pub areas-short : (costs choices : ℕ) → (costs < 4096) ⊎ (choices < 32768) → areasSuffice costs choices ≡ false
-areas-short costs choices h =
-    is-false (areasSuffice costs choices) (λ t.
-    let (p, q) = both-of (leb 4096 costs) (leb 32768 choices) t in
-    let p = leb→le 4096 costs p in
-    let q = leb→le 32768 choices q in
-    ⊎-elim (λ (g : costs < 4096). omega arith) (λ (g : choices < 32768). omega arith) h)
-
-pub areas-enough : (costs choices : ℕ) → 4096 ≤ costs → 32768 ≤ choices → T (areasSuffice costs choices)
-areas-enough costs choices a b = both (leb 4096 costs) (leb 32768 choices) (le→leb 4096 costs a) (le→leb 32768 choices b)
 
 -- ---- any call
 

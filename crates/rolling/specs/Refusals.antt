@@ -20,8 +20,8 @@ use Rattle.day.specs.Answer.{Answer, gives, refuses, onGiven, Check, must, chec
 use Rattle.day.specs.AnswerLaws.{AllHold, checked-gives, Only, OnlyChecks, only-checked, only-after}
 use Rattle.day.specs.Sound.{sound}
 use Rattle.day.specs.declared.Limits.{Limits}
-use Rattle.planning.specs.Planning.{noRow, bestRow}
-use Rattle.rolling.specs.Rolling.{Account, State, accountOf, stateOf, Change, cancel, add, setBoxes, edited, cut, bestPlan, areasSuffice, close, change, stateMade, stateChecks, stateAfter, begunAccount, begunChecks, begun}
+use Rattle.planning.specs.Planning.{areasSuffice, noRow, bestRow}
+use Rattle.rolling.specs.Rolling.{Account, State, accountOf, stateOf, Change, cancel, add, setBoxes, edited, cut, bestPlan, close, change, stateMade, stateChecks, stateAfter, begunAccount, begunChecks, begun}
 use Rattle.rolling.specs.Changes.{NoNewTrain}
 use Rattle.rolling.specs.Answers.{always-taken}
 

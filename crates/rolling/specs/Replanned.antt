@@ -22,10 +22,10 @@ use Rattle.model.specs.BestOf.{bestOf, is-best}
 use Rattle.day.specs.Answer.{Answer, gives, refuses, onGiven}
 use Rattle.day.specs.Sound.{dayLimits, sound}
 use Rattle.day.specs.SoundLaws.{sound-is}
-use Rattle.planning.specs.Planning.{costWords, choiceWords, costArea, choiceArea, bestRow, bestAnswer, planned, begins, placed, rowAfter, openWords, Stays}
+use Rattle.planning.specs.Planning.{costWords, choiceWords, costArea, choiceArea, areasSuffice, bestRow, bestAnswer, planned, begins, placed, rowAfter, openWords, Stays}
 use Rattle.planning.specs.Answers.{none-gives, planned-begun, row-begun}
 use Rattle.planning.specs.Demand.{memory-suffices}
-use Rattle.rolling.specs.Rolling.{bestPlan, areasSuffice}
+use Rattle.rolling.specs.Rolling.{bestPlan}
 
 -- a row put into zeros is the column of its slots
 module _ (w : ℕ) (plan : List ℕ) (few : length plan ≤ w) where

@@ -14,7 +14,7 @@ use Rattle.model.specs.BestOf.{bestOf}
 use Rattle.day.specs.Answer.{Answer, gives, onGiven, whereGiven, Check, must, checked, holding}
 use Rattle.day.specs.Sound.{range, between, within, trainRanges, sound}
 use Rattle.day.specs.declared.Limits.{Limits}
-use Rattle.planning.specs.Planning.{costArea, choiceArea, bestRow}
+use Rattle.planning.specs.Planning.{areasSuffice, bestRow}
 use Rattle.fold.specs.Column.{column, table}
 
 -- ---- the account and the state
@@ -208,10 +208,6 @@ abbrev pub bestPlan : Yard → Answer (List ℕ)
 bestPlan y = bestRow y (bestOf y)
 
 -- ---- the checks of a call, in their order, after 8
-
--- a changing day needs 4,096 and 32,768 words, whatever its trains are
-abbrev pub areasSuffice : ℕ → ℕ → Bool
-areasSuffice costs choices = leb costArea costs && leb choiceArea choices
 
 pub data Call : Type 0 where
   close : Call

@@ -25,8 +25,8 @@ use Rattle.day.specs.declared.Limits.{Limits}
 use Rattle.day.specs.SoundDay.{SoundDay, numberAt}
 use Rattle.day.specs.Answer.{gives, onGiven}
 use Rattle.day.specs.AnswerLaws.{AllHold, checked-gives}
-use Rattle.planning.specs.Planning.{bestRow}
-use Rattle.rolling.specs.Rolling.{Account, State, planOf, accountOf, stateOf, placeOf, isListed, moved, sourceWithout, sourceWith, withoutTrain, withTrain, Change, cancel, add, setBoxes, edited, cut, BestKept, bestPlan, areasSuffice, change, changeChecks, stateSound, stateMade, stateChecks, stateAfter}
+use Rattle.planning.specs.Planning.{areasSuffice, bestRow}
+use Rattle.rolling.specs.Rolling.{Account, State, planOf, accountOf, stateOf, placeOf, isListed, moved, sourceWithout, sourceWith, withoutTrain, withTrain, Change, cancel, add, setBoxes, edited, cut, BestKept, bestPlan, change, changeChecks, stateSound, stateMade, stateChecks, stateAfter}
 use Rattle.rolling.specs.Cut.{Standing}
 use Rattle.rolling.specs.States.{sound-state, state-standing, own-state}
 use Rattle.rolling.specs.Follows.{best-here}

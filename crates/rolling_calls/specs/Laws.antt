@@ -8,7 +8,8 @@ use Rattle.fold.specs.Test.{of-true, is-true}
 use Rattle.day.specs.Answer.{Answer, gives, refuses, holding}
 use Rattle.day.specs.AnswerLaws.{gives-same, checked-gives, checked-holds, checked-refuses, all-holding, refused-holding}
 use Rattle.day.specs.Sound.{dayLimits}
-use Rattle.rolling.specs.Rolling.{Account, State, accountOf, Change, edited, change, areasSuffice, changeChecks, stateSound, stateMade, stateAfter, stateBegins}
+use Rattle.planning.specs.Planning.{areasSuffice}
+use Rattle.rolling.specs.Rolling.{Account, State, accountOf, Change, edited, change, changeChecks, stateSound, stateMade, stateAfter, stateBegins}
 use Rattle.rolling.specs.Cut.{Standing}
 use Rattle.rolling.specs.Changes.{change-standing}
 use Rattle.rolling.specs.States.{sound-state, state-standing}

@@ -41,7 +41,7 @@ pub fn change(state: RollingState, change: Change, cost: &mut [u64], choice: &mu
     if !rolling_state::is_state_sound(state) {
         return rolling_state::refused(state, Refusal::Unsound);
     }
-    if !replanning::are_areas_enough(cost.len(), choice.len()) {
+    if !planning::are_areas_enough(cost.len(), choice.len()) {
         return rolling_state::refused(state, Refusal::TooShort);
     }
     let edited = account_edits::edited_account(account_of(state), change);

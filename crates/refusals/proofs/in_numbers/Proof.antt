@@ -136,6 +136,12 @@ enum-told-8 c = search needs
 carrying-requires-20 : tie.Need-carrying-requires-20
 carrying-requires-20 c κs = search needs
 
+enum-told-9 : tie.Need-enum-told-9
+enum-told-9 c = search needs
+
+carrying-requires-21 : tie.Need-carrying-requires-21
+carrying-requires-21 c κs = search needs
+
 returns : tie.Need-returns
 returns c = rw (c .before .before .refusal .given .1) (c .carrying .ensures)
 
@@ -199,6 +205,9 @@ returns-20 c = rw (c .before .enum-told7 .given .1) (c .carrying19 .ensures)
 returns-21 : tie.Need-returns-21
 returns-21 c = rw (c .before .enum-told8 .given .1) (c .carrying20 .ensures)
 
+returns-22 : tie.Need-returns-22
+returns-22 c = rw (c .before .enum-told9 .given .1) (c .carrying21 .ensures)
+
 pub in-numbers-spec : {M : Type 1} → statement M
 in-numbers-spec =
     tie.close
@@ -247,6 +256,8 @@ in-numbers-spec =
     carrying-requires-19
     enum-told-8
     carrying-requires-20
+    enum-told-9
+    carrying-requires-21
     returns
     returns-2
     returns-3
@@ -267,4 +278,5 @@ in-numbers-spec =
     returns-18
     returns-19
     returns-20
-    returns-21)
+    returns-21
+    returns-22)

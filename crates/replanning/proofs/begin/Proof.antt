@@ -7,8 +7,8 @@ use borrow.Author.Needs.{needs}
 use borrow.Author.Tests.{not-true, not-false}
 use Rattle.fold.specs.Test.{of-true}
 use Rattle.day.specs.Sound.{dayLimits, yard, sound}
-use Rattle.planning.specs.Planning.{costArea, choiceArea, openWords, Stays}
-use Rattle.rolling.specs.Rolling.{areasSuffice, orBefore}
+use Rattle.planning.specs.Planning.{costArea, choiceArea, areasSuffice, openWords, Stays}
+use Rattle.rolling.specs.Rolling.{orBefore}
 use Rattle.rolling.specs.Follows.{begun-standing}
 use Rattle.rolling_state.specs.States.{answer}
 use Rattle.rolling_state.specs.Laws.{left-by}

@@ -10,8 +10,8 @@ use borrow.Author.Tests.{not-true, not-false}
 use Rattle.fold.specs.Test.{of-true}
 use Rattle.day.specs.Answer.{gives, judged}
 use Rattle.day.specs.Sound.{dayLimits, sound}
-use Rattle.planning.specs.Planning.{costArea, choiceArea, openWords, Stays}
-use Rattle.rolling.specs.Rolling.{State, accountOf, areasSuffice, stateSound}
+use Rattle.planning.specs.Planning.{costArea, choiceArea, areasSuffice, openWords, Stays}
+use Rattle.rolling.specs.Rolling.{State, accountOf, stateSound}
 use Rattle.rolling.specs.States.{sound-state}
 use Rattle.rolling_state.specs.States.{stateIn, Says}
 use Rattle.account_edits.specs.Accounts.{accountIn, changeIn, made}

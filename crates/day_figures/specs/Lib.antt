@@ -1,0 +1,3 @@
+pub mod Figures
+pub mod Laws
+pub mod Means

@@ -1,0 +1,4 @@
+pub mod Parting
+pub mod Laws
+pub mod Accepted
+pub mod Walk
