@@ -1,7 +1,7 @@
 -- How the planning call's parts come to its answer: each of the answers that the code gives.
 -- Assumes nothing.
 use mathlib.Core.Path.{_≡_, refl, sym, ap, ap₂, _∙_, subst}
-use mathlib.Core.Bool.{true, false, _&&_}
+use mathlib.Core.Bool.{Bool, true, false, _&&_}
 use mathlib.Core.List.{List, [], _∷_, _++_}
 use mathlib.Core.Option.{Option, none, some}
 use Prim.Native.Nat.{ℕ, _*_, _^_, _≤_}
@@ -20,6 +20,11 @@ use Rattle.planning.specs.Planning.{costWords, choiceWords, bestAnswer, 
 pub placed-front : (n : ℕ) (found : Option (List ℕ)) (row₀ row : List ℕ) → found ≡ some (take n row) → drop n row ≡ drop n row₀ → n ≤ length row → row ≡ placed found row₀
 placed-front n found row₀ row e beyond long =
     sym (take-append-drop n row) ∙ ap (λ (r : List ℕ). take n row ++ r) beyond ∙ ap (λ k. take n row ++ drop k row₀) (sym (length-take-le n row long)) ∙ sym (ap (λ o. placed o row₀) e)
+
+-- where words of an area are open or none is, those beyond stay
+pub stays-beyond : (begun : Bool) (words : ℕ) (before after : List ℕ) → Stays (openWords begun words) before after → drop words after ≡ drop words before
+stays-beyond true words before after s = s
+stays-beyond false words before after s = ap (drop words) s
 
 -- ---- the answers, from what the code has found
 

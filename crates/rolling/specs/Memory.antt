@@ -13,6 +13,7 @@ use Rattle.day.specs.Answer.{Answer, gives, refuses, onGiven, Check, checked, h
 use Rattle.day.specs.AnswerLaws.{holding-all, checked-holds, Only, only-given}
 use Rattle.day.specs.declared.Limits.{Limits}
 use Rattle.planning.specs.Planning.{costArea, choiceArea, openWords, Stays}
+use Rattle.planning.specs.Laws.{stays-beyond}
 use Rattle.rolling.specs.Rolling.{Account, State, accountOf, stateOf, Change, edited, cut, bestPlan, change, stateChecks, stateAfter, begunAccount, begunChecks, begun, stateBegins, begunBegins}
 use Rattle.rolling.specs.Refusals.{OfPlanning, plan-only}
 
@@ -41,13 +42,9 @@ module _ (said : Answer State) (begins : Bool) (cost choice costAfter choiceAfte
   pub areas-after : Areas said cost choice costAfter choiceAfter
   areas-after = record {
     unchanged = λ k carries e other. let f = only k carries e other in (rw f at contractCost, rw f at contractChoice);
-    costBeyond = beyond begins 4096 cost costAfter contractCost;
-    choiceBeyond = beyond begins 32768 choice choiceAfter contractChoice;
+    costBeyond = stays-beyond begins 4096 cost costAfter contractCost;
+    choiceBeyond = stays-beyond begins 32768 choice choiceAfter contractChoice;
   }
-    where
-      beyond : (b : Bool) (words : ℕ) (before after : List ℕ) → Stays (openWords b words) before after → drop words after ≡ drop words before
-      beyond true words before after s = s
-      beyond false words before after s = ap (drop words) s
 
 module _ (l : Limits) (cost choice costAfter choiceAfter : List ℕ) where
   pub change-memory : (s : State) (c : Change)

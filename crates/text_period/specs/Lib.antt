@@ -1,0 +1,2 @@
+pub mod TextPeriod
+pub mod Laws
