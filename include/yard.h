@@ -1,5 +1,5 @@
 /* The yard slot planner for programs in C: plan a day, check a day file, value a row of slots, see what planning saves, keep a plan while
- * the day changes, plan a long day.
+ * the day changes, plan a long day, report over a season.
  *
  * The functions are proved (crates/yard): for every text, every row and all lent memory they return and leave exactly what stands here.
  * They keep no state, allocate nothing, and may be called from several threads at once. Those that plan (yard_answer, yard_plan,
@@ -30,7 +30,9 @@
  *     19  a train that can't be added               20  no slot is open that could be closed
  * and of a long day:
  *     21  the width is none of 1 to 64
- * Where yard_answer or yard_long_answer prints a refusal (1 to 7, 9, 15, 16) it returns 0.
+ * and of a season:
+ *     22  the text has more than 366 days
+ * Where yard_answer or yard_long_answer prints a refusal (1 to 7, 9, 15, 16) it returns 0, and so does yard_season_answer where it prints 22.
  */
 #ifndef YARD_H
 #define YARD_H
@@ -267,6 +269,46 @@ uint64_t yard_long_check(const uint8_t *text, size_t text_length, uint64_t *line
  * the refusal: 10 where numbers_length is below 4 (then no number has changed), else 1 to 7, else 11, 12 or 13. */
 uint64_t yard_long_value(const uint8_t *text, size_t text_length, const uint8_t *row, size_t row_length, uint64_t *numbers,
                          size_t numbers_length);
+
+/* ---- the season in exact figures (order 10 of document 02)
+ *
+ * One report over up to 366 day files, joined in one text with an empty line between. Every empty line parts two days, also at the ends of
+ * the text and one after the other; a text that is not empty has one day more than it has empty lines, an empty text has none. Each day is
+ * read and planned as yard_plan does it: it is planned, or refused under the number that yard_plan would return. */
+#define YARD_SEASON_MOST_DAYS 366
+#define YARD_SEASON_ANSWER_BYTES 512
+#define YARD_SEASON_NUMBERS 40
+
+/* Where the numbers of a report stand. Days refused under the number k, 1 to 26, stand at k; days planned at 0. Totals are over the planned
+ * days; savings are those of first come, first served (its cost less the planned cost), over the planned days on which that procedure gives
+ * an allowed row. A mean over the planned days is a quotient at the index named and the remainder behind it, both 0 where no day was
+ * planned. */
+#define YARD_SEASON_PLANNED 0
+#define YARD_SEASON_REVISITS 27
+#define YARD_SEASON_SPLITS 28
+#define YARD_SEASON_DIRECT 29
+#define YARD_SEASON_BOXES 30
+#define YARD_SEASON_SAVINGS 31
+#define YARD_SEASON_MEAN_REVISITS 32
+#define YARD_SEASON_MEAN_SPLITS 34
+#define YARD_SEASON_MEAN_DIRECT 36
+#define YARD_SEASON_MEAN_BOXES 38
+
+/* The report over the days of a text.
+ *
+ * text, text_length        the day files, of any length. No byte of it changes.
+ * numbers, numbers_length  room for at least YARD_SEASON_NUMBERS numbers. Afterwards the first YARD_SEASON_NUMBERS hold the report, after 22
+ *                          zeros. Numbers beyond stay as they were.
+ *
+ * Returns 0, or the refusal: 10 where numbers_length is below YARD_SEASON_NUMBERS (then no number has changed), else 22 where the text has
+ * more than 366 days, bad and empty ones included. A day that is refused refuses no report. */
+uint64_t yard_season(const uint8_t *text, size_t text_length, uint64_t *numbers, size_t numbers_length);
+
+/* What the program yard-season prints for a text, byte for byte: the report as lines (docs/FORMAT.md), or the two lines of refusal 22. The text
+ * is read whole, whatever its length; the program reads the first 1,048,576 bytes of a longer one.
+ * Arguments and return as yard_answer: 0, or 10 where out is shorter than the answer: then no byte of out has changed and *bytes is 0.
+ * YARD_SEASON_ANSWER_BYTES always suffice. */
+uint64_t yard_season_answer(const uint8_t *text, size_t text_length, uint8_t *out, size_t out_length, size_t *bytes);
 
 #ifdef __cplusplus
 }

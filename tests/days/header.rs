@@ -50,6 +50,24 @@ pub const LONG_NUMBERS: usize = defined("\n#define YARD_LONG_NUMBERS ");
 pub const LONG_WIDTH: usize = defined("\n#define YARD_LONG_WIDTH ");
 pub const LONG_MOST_WIDTH: usize = defined("\n#define YARD_LONG_MOST_WIDTH ");
 
+pub const SEASON_MOST_DAYS: usize = defined("\n#define YARD_SEASON_MOST_DAYS ");
+pub const SEASON_ANSWER_BYTES: usize = defined("\n#define YARD_SEASON_ANSWER_BYTES ");
+pub const SEASON_NUMBERS: usize = defined("\n#define YARD_SEASON_NUMBERS ");
+
+/// Where the numbers of a report stand, with the names of their places.
+pub const SEASON_PLACES: [(&str, usize); 10] = [
+    ("PLANNED", defined("\n#define YARD_SEASON_PLANNED ")),
+    ("REVISITS", defined("\n#define YARD_SEASON_REVISITS ")),
+    ("SPLITS", defined("\n#define YARD_SEASON_SPLITS ")),
+    ("DIRECT", defined("\n#define YARD_SEASON_DIRECT ")),
+    ("BOXES", defined("\n#define YARD_SEASON_BOXES ")),
+    ("SAVINGS", defined("\n#define YARD_SEASON_SAVINGS ")),
+    ("MEAN_REVISITS", defined("\n#define YARD_SEASON_MEAN_REVISITS ")),
+    ("MEAN_SPLITS", defined("\n#define YARD_SEASON_MEAN_SPLITS ")),
+    ("MEAN_DIRECT", defined("\n#define YARD_SEASON_MEAN_DIRECT ")),
+    ("MEAN_BOXES", defined("\n#define YARD_SEASON_MEAN_BOXES ")),
+];
+
 /// The functions that the header declares, each in one line. A declaration
 /// begins a line and ends with a semicolon.
 pub fn prototypes() -> Vec<String> {

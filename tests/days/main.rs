@@ -53,6 +53,16 @@
 //! mislong_calls.rs). Built with `--cfg long_standin` this program brings the four
 //! functions along (long_exports.rs), for a library that hasn't them yet.
 //!
+//! A season (order 10 of 02) is a text of many days: season.rs parts it by its lines
+//! and adds up columns, season_day.rs has what one day adds, by the reader, the
+//! enumeration and the baselines of the other modes. Mode season joins drawn days and
+//! damaged texts (season_draw.rs), takes seasons made by hand (season_special.rs,
+//! season_known.rs), calls the two functions in marked memory (season_calls.rs) and
+//! runs yard-season. Mode self has a stand-in of the two functions (season_standin.rs)
+//! make each of a list of mistakes (misseason.rs, misseason_figures.rs,
+//! misseason_telling.rs). Built with `--cfg season_standin` this program brings the two
+//! along (season_exports.rs).
+//!
 //!     days expect < day.txt        prints what yard-plan has to print
 //!     days examples PROGRAM DIR    runs the stored days of DIR but yard-long's
 //!     days generated PROGRAM       runs known and drawn days and damaged texts
@@ -77,6 +87,11 @@
 //!                                  runs the stored days of DIR that are yard-long's
 //!     days wider                   looks for days on which a greater width costs
 //!                                  more; it tests nothing
+//!     days season PROGRAM          seasons through the library's two functions and
+//!                                  through yard-season
+//!     days season-expect < text    prints what yard-season has to print
+//!     days season-examples PROGRAM DIR
+//!                                  runs the stored seasons of DIR
 //!     days stack FUNCTION          calls one with little stack, for calls and
 //!                                  moving
 //!     days self                    checks this program on known days, and that
@@ -169,6 +184,9 @@ mod misreaders;
 mod misreadings;
 mod misreports;
 mod misrewritings;
+mod misseason;
+mod misseason_figures;
+mod misseason_telling;
 mod missteps;
 mod misvaluings;
 mod misweighings;
@@ -189,6 +207,18 @@ mod procedures;
 mod process;
 mod reports;
 mod rotation;
+mod season;
+mod season_calls;
+mod season_day;
+mod season_draw;
+#[cfg(season_standin)]
+mod season_exports;
+mod season_functions;
+mod season_known;
+mod season_run;
+mod season_seen;
+mod season_special;
+mod season_standin;
 mod seen;
 mod self_baselines;
 mod self_calls;
@@ -198,6 +228,7 @@ mod self_fewest;
 mod self_long;
 mod self_moving;
 mod self_search;
+mod self_season;
 mod self_sets;
 mod self_ties;
 mod sets;
@@ -226,6 +257,8 @@ use crate::model::MOST_BYTES_READ;
 use crate::moving::moving;
 use crate::plan::expected;
 use crate::process::{compare_file, escaped};
+use crate::season::{expected_season, SEASON_BYTES_READ};
+use crate::season_run::season_of_days;
 use crate::self_check::check_self;
 use crate::stack::little_stack;
 use crate::weights::weights;
@@ -240,17 +273,28 @@ use std::process::ExitCode;
 // Mode: examples
 // ---------------------------------------------------------------------------
 
-/// A program with stored days: whose names begin in this way or don't, what it has
-/// to print, and how many bytes it reads at most.
+/// A program with stored days: whose names begin in this way or don't, how files of
+/// input and output end, what it has to print, and how many bytes it reads at most.
 #[derive(Clone, Copy)]
 struct Stored {
     long: bool,
+    input: &'static str,
+    output: &'static str,
     expected: fn(&[u8]) -> Vec<u8>,
     most_read: usize,
 }
 
-const USUAL: Stored = Stored { long: false, expected, most_read: MOST_BYTES_READ };
-const LONG: Stored = Stored { long: true, expected: expected_long, most_read: LONG_BYTES_READ };
+const USUAL: Stored =
+    Stored { long: false, input: "day", output: "out", expected, most_read: MOST_BYTES_READ };
+const LONG: Stored =
+    Stored { long: true, expected: expected_long, most_read: LONG_BYTES_READ, ..USUAL };
+const SEASON: Stored = Stored {
+    long: false,
+    input: "season",
+    output: "report",
+    expected: expected_season,
+    most_read: SEASON_BYTES_READ,
+};
 
 /// Days of yard-long have names that begin so.
 const LONG_NAME: &str = "long-";
@@ -278,9 +322,9 @@ impl Stored {
 /// The stored output has to be both what the papers say and what the program prints.
 fn compare_example(program: &str, stored_for: Stored, stem: &Path) -> Result<(), String> {
     let complain = |error: io::Error| error.to_string();
-    let day = stem.with_extension("day");
+    let day = stem.with_extension(stored_for.input);
     let text = fs::read(&day).map_err(complain)?;
-    let stored = fs::read(stem.with_extension("out")).map_err(complain)?;
+    let stored = fs::read(stem.with_extension(stored_for.output)).map_err(complain)?;
     let expected = (stored_for.expected)(&text);
     if stored != expected {
         let (stored, expected) = (escaped(&stored), escaped(&expected));
@@ -293,8 +337,8 @@ fn compare_example(program: &str, stored_for: Stored, stem: &Path) -> Result<(),
 fn examples(program: &str, stored: Stored, directory: &Path) -> bool {
     let mut tests = Tests::new(program);
     // A directory that cannot be read holds no days, which is a failure below.
-    let days = stored.stems(directory, "day").unwrap_or_default();
-    let outputs = stored.stems(directory, "out").unwrap_or_default();
+    let days = stored.stems(directory, stored.input).unwrap_or_default();
+    let outputs = stored.stems(directory, stored.output).unwrap_or_default();
     if days.is_empty() {
         tests.fail(&format!("no days in {}", directory.display()));
     }
@@ -353,12 +397,16 @@ fn main() -> ExitCode {
         ["below"] => below(),
         ["long", program] => long(program),
         ["wider"] => wider(),
+        ["season", program] => season_of_days(program),
+        ["season-expect"] => expect(SEASON).is_ok(),
+        ["season-examples", program, directory] => examples(program, SEASON, Path::new(directory)),
         ["stack", name] => little_stack(name),
         ["self"] => check_self(),
         _ => {
             let modes = "expect | examples PROGRAM DIR | generated PROGRAM | baselines | calls | \
                          moving | fewest PROGRAM | weights TOOL | below | long PROGRAM | \
-                         long-expect [WIDTH] | long-examples PROGRAM DIR | wider | self";
+                         long-expect [WIDTH] | long-examples PROGRAM DIR | wider | \
+                         season PROGRAM | season-expect | season-examples PROGRAM DIR | self";
             eprintln!("usage: days {modes}");
             return ExitCode::from(2);
         }

@@ -20,6 +20,7 @@ use crate::self_fewest::check_fewest;
 use crate::self_long::check_long;
 use crate::self_moving::check_moving;
 use crate::self_search::check_search;
+use crate::self_season::check_season;
 use crate::self_sets::check_sets;
 use crate::self_ties::check_ties;
 use crate::special::{greatest_day, greatest_ungrouped, last_move, longest_plan_day, padded};
@@ -183,5 +184,6 @@ pub fn check_self() -> bool {
     check_moving(&mut tests);
     check_fewest(&mut tests);
     check_long(&mut tests);
+    check_season(&mut tests);
     tests.finish()
 }

@@ -3,7 +3,7 @@
 /// The prototypes without their result, `uint64_t`, as this module was written
 /// from them. Mode calls compares them with the header's, so that the header
 /// promises no function, and no order of arguments, that isn't called here.
-pub const PROTOTYPES: [&str; 17] = [
+pub const PROTOTYPES: [&str; 19] = [
     "yard_version(void)",
     "yard_answer(const uint8_t *text, size_t text_length, uint8_t *out, size_t out_length, \
      size_t *bytes)",
@@ -45,6 +45,10 @@ pub const PROTOTYPES: [&str; 17] = [
     "yard_long_check(const uint8_t *text, size_t text_length, uint64_t *line)",
     "yard_long_value(const uint8_t *text, size_t text_length, const uint8_t *row, \
      size_t row_length, uint64_t *numbers, size_t numbers_length)",
+    "yard_season(const uint8_t *text, size_t text_length, uint64_t *numbers, \
+     size_t numbers_length)",
+    "yard_season_answer(const uint8_t *text, size_t text_length, uint8_t *out, \
+     size_t out_length, size_t *bytes)",
 ];
 
 #[link(name = "yard", kind = "static")]
@@ -216,5 +220,27 @@ extern "C" {
         row_length: usize,
         numbers: *mut u64,
         numbers_length: usize,
+    ) -> u64;
+}
+
+/// Built with `--cfg season_standin` it brings those of a season along.
+#[cfg(season_standin)]
+pub use crate::season_exports::{yard_season, yard_season_answer};
+
+#[cfg(not(season_standin))]
+#[link(name = "yard", kind = "static")]
+extern "C" {
+    pub fn yard_season(
+        text: *const u8,
+        text_length: usize,
+        numbers: *mut u64,
+        numbers_length: usize,
+    ) -> u64;
+    pub fn yard_season_answer(
+        text: *const u8,
+        text_length: usize,
+        out: *mut u8,
+        out_length: usize,
+        bytes: *mut usize,
     ) -> u64;
 }

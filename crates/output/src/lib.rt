@@ -40,6 +40,14 @@ fn put_field(out: &mut [u8], at: usize, v: u64, end: u8) -> usize
     p + 1
 }
 
+// Writes a row of one value.
+pub fn put_one(out: &mut [u8], at: usize, a: u64) -> usize
+    requires { ⌜ at + length (rowText (a ∷ [])) ≤ length (now out) ⌝ }
+    ensures { λ r. ⌜ Put (now (out .entry)) (now (out .exit)) at r (rowText (a ∷ [])) ⌝ }
+{
+    put_field(out, at, a, 10)
+}
+
 // Writes a row of two values.
 pub fn put_two(out: &mut [u8], at: usize, a: u64, b: u64) -> usize
     requires { ⌜ at + length (rowText (a ∷ b ∷ [])) ≤ length (now out) ⌝ }

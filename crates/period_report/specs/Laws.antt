@@ -5,7 +5,7 @@ use mathlib.Core.Bool.{Bool, true, false, cond}
 use mathlib.Core.List.{List, [], _∷_, _++_, map}
 use mathlib.Core.Logic.{_⊎_, inl, inr, ⊎-elim, _≢_}
 use Prim.Native.Nat.{ℕ, zero, suc, _+_, _*_, _/_, _%_, _^_, _≤_, _<_}
-use native.Mathlib.Nat.{suc-mul, add-zero, mod-lt, div-add-mod', le-trans}
+use native.Mathlib.Nat.{suc-mul, add-zero, mod-lt, div-add-mod', le-refl, le-trans, mul-le-mul}
 use native.Mathlib.Omega.{arith}
 use lib.Dec.{eqb}
 use lib.ListN.{length, getD, set, replicate, length-set}
@@ -13,11 +13,12 @@ use lib.Seq.{ext-getD, getD-set-same, getD-set-other}
 use borrow.Author.Tests.{eq-eqb, ne-eqb}
 use Rattle.fold.specs.Fold.{bit, sum}
 use Rattle.fold.specs.Sums.{sum-ext, sum-add, sum-zero, sum-only}
-use Rattle.fold.specs.Counting.{same-or, bit-le}
+use Rattle.fold.specs.Counting.{same-or, le-or-lt, bit-le}
 use Rattle.fold.specs.Listed.{listed, length-listed, listed-at, listed-ext}
 use Rattle.day.specs.Answer.{Answer, gives, refuses, code, whereGiven}
 use Rattle.day_figures.specs.Laws.{Within, Small}
 use Rattle.day_figures.specs.declared.Figures.{Figures}
+use Rattle.period_report.specs.declared.Mean.{Mean}
 use Rattle.period_report.specs.declared.Tally.{Tally}
 use Rattle.period_report.specs.Report.{total, daysUnder, totalOf, counters, tallyOf, mean}
 
@@ -233,3 +234,18 @@ mean-some total planned e = rw (ne-eqb planned 0 e)
 pub mean-exact : (total planned : ℕ) → 0 < planned → (total ≡ mean total planned .quotient * planned + mean total planned .remainder) × (mean total planned .remainder < planned)
 unfolding mean
 mean-exact total planned h = rw (ne-eqb planned 0 (λ q. omega arith)) (sym (div-add-mod' total planned), mod-lt total h)
+
+-- neither is more than the total
+pub mean-most : (total planned : ℕ) → (mean total planned .quotient ≤ total) × (mean total planned .remainder ≤ total)
+mean-most total planned = ⊎-elim none some (le-or-lt planned 0)
+  where
+    none : planned ≤ 0 → (mean total planned .quotient ≤ total) × (mean total planned .remainder ≤ total)
+    none h =
+        let e = mean-none total planned (omega arith) in
+        (omega (arith, ap (λ (m : Mean). m .quotient) e), omega (arith, ap (λ (m : Mean). m .remainder) e))
+
+    some : 0 < planned → (mean total planned .quotient ≤ total) × (mean total planned .remainder ≤ total)
+    some h =
+        let m = mean-exact total planned h .0 in
+        let times : mean total planned .quotient * 1 ≤ mean total planned .quotient * planned = mul-le-mul (le-refl (mean total planned .quotient)) h in
+        (omega arith, omega arith)

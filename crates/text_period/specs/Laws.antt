@@ -132,12 +132,12 @@ module _ (text before : List ℕ) (room : 40 ≤ length before) where
   many-zeros e = ap (λ a. reportAfter a before) e ∙ numbers-told reportCount reportNumbers (refuses 22 (0 ∷ [])) before room
 
 -- without room 10, and no number changes
-pub no-room : (text before : List ℕ) → length before < 40
+pub without-forty : (text before : List ℕ) → length before < 40
     → (reportFor dayLimits text (length before) ≡ refuses 10 (0 ∷ [])) × (reportAfter (reportFor dayLimits text (length before)) before ≡ before)
 unfolding reportFor
-no-room text before h = (rw (lt-leb reportCount (length before) h), sym (tells-short text before h .1))
+without-forty text before h = (rw (lt-leb reportCount (length before) h), sym (tells-short text before h .1))
 
 -- with room what the call answers in areas that suffice
-pub with-room : (text : List ℕ) (size : ℕ) → 40 ≤ size → reportFor dayLimits text size ≡ periodReport dayLimits text 4096 32768
+pub with-forty : (text : List ℕ) (size : ℕ) → 40 ≤ size → reportFor dayLimits text size ≡ periodReport dayLimits text 4096 32768
 unfolding reportFor
-with-room text size h = rw (le-leb reportCount size h)
+with-forty text size h = rw (le-leb reportCount size h)

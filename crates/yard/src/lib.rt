@@ -2,7 +2,8 @@
 // (include/yard.h). A slice is a pointer and a length.
 //
 // Proved: for every text, row and lent memory each function returns and leaves what the call behind it says, in the papers' numbers
-// (specs/Returns.antt, Moving.antt and Long.antt: which they can be, and what they mean); too little room gives refusal 10. Assumes nothing; of a caller only that a pointer has the length that is given beside it.
+// (specs/Returns.antt, Moving.antt, Long.antt and Season.antt: which they can be, and what they mean); too little room gives refusal 10. Assumes nothing;
+// of a caller only that a pointer has the length that is given beside it.
 ghost use mathlib.Core.Path.{_≡_};
 ghost use lib.ListN.{length};
 ghost use Rattle.day.specs.Answer.{code};
@@ -22,6 +23,8 @@ ghost use Rattle.text_rolling.specs.TextRolling.{beginFor, closeFor, changeFor,
 ghost use Rattle.long_day.specs.LongDay.{longLimits};
 ghost use Rattle.long_answering.specs.LongAnswering.{longAnswerWrites, longAnswerLeaves};
 ghost use Rattle.text_long.specs.TextLong.{longNumbersAfter, longPlanFor, longRowFor, longSlotsFor};
+ghost use Rattle.period_answering.specs.PeriodAnswering.{periodWrites, periodLeaves};
+ghost use Rattle.text_period.specs.TextPeriod.{reportFor, reportAfter};
 ghost use Rattle.yard.specs.Interface.{version, count};
 use account_edits::Change;
 use baselines::Procedure;
@@ -338,4 +341,35 @@ pub extern "C" fn yard_long_value(text: &[u8], row: &[u8], numbers: &mut [u64]) 
     ensures { λ _. ⌜ now (numbers .exit) ≡ numbersAfter (valueText longLimits (now (text .entry)) (now (row .entry)) (length (now (numbers .entry)))) (now (numbers .entry)) ⌝ }
 {
     text_long::value_long_text(text, row, numbers)
+}
+
+// ---- the season
+
+// The report over the days of a text: 0 with its numbers in the first forty, or 22 with zeros there. 10 where there is no room for forty, and
+// then none changes.
+#[no_mangle]
+pub extern "C" fn yard_season(text: &[u8], numbers: &mut [u64]) -> u64
+    ensures { λ r. ⌜ r ≡ code (reportFor dayLimits (now (text .entry)) (length (now (numbers .entry)))) ⌝ }
+    ensures { λ _. ⌜ now (numbers .exit) ≡ reportAfter (reportFor dayLimits (now (text .entry)) (length (now (numbers .entry)))) (now (numbers .entry)) ⌝ }
+{
+    text_period::tell_report(text, numbers)
+}
+
+// What yard-season prints for a text, in the first bytes of `out`, and their count; or 10, with a count of 0.
+#[no_mangle]
+pub extern "C" fn yard_season_answer(text: &[u8], out: &mut [u8], bytes: &mut usize) -> u64
+    ensures { λ r. ⌜ r ≡ code (periodWrites (now (text .entry)) (length (now (out .entry)))) ⌝ }
+    ensures { λ _. ⌜ now (bytes .exit) ≡ count (periodWrites (now (text .entry)) (length (now (out .entry)))) ⌝ }
+    ensures { λ _. ⌜ now (out .exit) ≡ periodLeaves (now (text .entry)) (now (out .entry)) ⌝ }
+{
+    match period_answering::answer_period(text, out) {
+        Wrote::Bytes(n) => {
+            *bytes = n;
+            0
+        }
+        Wrote::Refused(refusal) => {
+            *bytes = 0;
+            refusals::in_numbers(refusal).number
+        }
+    }
 }

@@ -1,0 +1,1 @@
+// Texts of several day files with their reports, as one proved table, in specs/. No code.

@@ -1,0 +1,3 @@
+pub mod PeriodAnswering
+pub mod Laws
+pub mod PeriodPrinted

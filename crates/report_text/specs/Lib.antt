@@ -1,0 +1,3 @@
+pub mod ReportText
+pub mod Laws
+pub mod Size
