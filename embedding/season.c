@@ -12,33 +12,58 @@
 
 #include "yard.h"
 
-/* No day file has more than YARD_DAY_BYTES bytes, so of a longer file that much and one byte more, which is refused as well, is enough. */
-enum { MOST_FILE = YARD_DAY_BYTES + 1 };
+/* The day files, joined. */
+struct season {
+    uint8_t *text;
+    size_t length, room;
+};
 
-/* Appends a file to the text. Returns 0 where it cannot be read. */
-static int append_file(const char *name, uint8_t *text, size_t *length)
+/* Appends a byte. Returns 0 where there is no memory. */
+static int append_byte(struct season *season, uint8_t byte)
+{
+    if (season->length == season->room) {
+        size_t room = 2 * season->room + 4096;
+        uint8_t *text = realloc(season->text, room);
+        if (!text)
+            return 0;
+        season->text = text;
+        season->room = room;
+    }
+    season->text[season->length++] = byte;
+    return 1;
+}
+
+/* Appends a file. Returns 0 where it cannot be read. A file that does not end its last line gets the byte 10 that is missing: else it would be one
+ * day with the next. */
+static int append_file(struct season *season, const char *name)
 {
     FILE *file = fopen(name, "rb");
     if (!file) {
         perror(name);
         return 0;
     }
-    *length += fread(text + *length, 1, MOST_FILE, file);
-    int good = !ferror(file);
-    if (!good)
+    int byte, last = '\n', good = 1;
+    while (good && (byte = getc(file)) != EOF) {
+        good = append_byte(season, (uint8_t)byte);
+        last = byte;
+    }
+    if (good && !ferror(file) && last != '\n')
+        good = append_byte(season, '\n');
+    if (!good || ferror(file)) {
         perror(name);
+        good = 0;
+    }
     fclose(file);
     return good;
 }
 
-/* The day files, joined: an empty line parts two of them. The file before keeps its own last byte 10. */
-static int join_files(char **names, int count, uint8_t *text, size_t *length)
+/* An empty line parts two files. */
+static int join_files(struct season *season, char **names, int count)
 {
-    *length = 0;
     for (int i = 0; i < count; i++) {
-        if (i > 0)
-            text[(*length)++] = '\n';
-        if (!append_file(names[i], text, length))
+        if (i > 0 && !append_byte(season, '\n'))
+            return 0;
+        if (!append_file(season, names[i]))
             return 0;
     }
     return 1;
@@ -62,17 +87,12 @@ static void print_figure(const char *name, const uint64_t *numbers, int total, i
 int main(int argc, char **argv)
 {
     uint64_t numbers[YARD_SEASON_NUMBERS];
-    size_t length;
-    uint8_t *text = malloc((size_t)argc * (MOST_FILE + 1));
+    struct season season = { malloc(4096), 0, 4096 };
 
-    if (!text) {
-        perror(argv[0]);
+    if (!season.text || !join_files(&season, argv + 1, argc - 1))
         return 2;
-    }
-    if (!join_files(argv + 1, argc - 1, text, &length))
-        return 2;
-    uint64_t refusal = yard_season(text, length, numbers, YARD_SEASON_NUMBERS);
-    free(text);
+    uint64_t refusal = yard_season(season.text, season.length, numbers, YARD_SEASON_NUMBERS);
+    free(season.text);
     if (refusal != 0) {
         printf("more than %d days\n", YARD_SEASON_MOST_DAYS);
         return 1;

@@ -3,7 +3,8 @@
  *
  * The functions are proved (crates/yard): for every text, every row and all lent memory they return and leave exactly what stands here.
  * They keep no state, allocate nothing, and may be called from several threads at once. Those that plan (yard_answer, yard_plan,
- * yard_first_come_first_served, yard_myopic) need up to 160 KB of stack: the examples of embedding/ run in 160 KB and not in 140.
+ * yard_first_come_first_served, yard_myopic, yard_season, yard_season_answer) need up to 160 KB of stack: the examples of embedding/ run in
+ * 160 KB and not in 140.
  * yard_plan_in_workspace and the functions of a moving day need up to 64 KB: the same days are planned in 56 KB and not in 48. The functions
  * of long days need up to 32 KB: a long day with every box that there can be is planned in 28 KB and not in 24.
  *

@@ -1,13 +1,11 @@
 -- How a day comes to its figures, and how great they can be: no figure of a day is above the greatest cost of a row.
 -- Assumes nothing.
-use mathlib.Core.Path.{_≡_, refl, sym, ap, ap₂, _∙_}
+use mathlib.Core.Path.{_≡_, refl, sym, ap, _∙_}
 use mathlib.Core.List.{List}
-use Prim.Native.Nat.{ℕ, _+_, _-_, _≤_, _<_, _^_}
+use Prim.Native.Nat.{ℕ, _+_, _-_, _≤_}
 use native.Mathlib.Omega.{arith}
-use lib.Dec.{T}
-use lib.IntN.{ℤ, pos}
+use lib.IntN.{pos}
 use Rattle.model.specs.Model.{Yard, Outcome, outcome, cost, boxesOf}
-use Rattle.model.specs.Moves.{AllMoved}
 use Rattle.day.specs.Answer.{Answer, gives, refuses, onGiven}
 use Rattle.day.specs.Sound.{dayLimits}
 use Rattle.day.specs.SoundLaws.{sound-is}

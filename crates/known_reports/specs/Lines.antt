@@ -1,13 +1,13 @@
 -- What a line of the table of known reports says, the test that the checker computes, and that a line whose test passes holds.
 -- Assumes nothing.
-use mathlib.Core.Path.{_≡_, refl, ap, ap₂, _∙_}
+use mathlib.Core.Path.{_≡_, refl, ap₂}
 use mathlib.Core.Bool.{Bool, true, false, _&&_}
 use mathlib.Core.List.{List, [], _∷_}
 use Prim.Native.Nat.{ℕ}
 use lib.Dec.{T}
 use lib.ListN.{getD, set, replicate}
 use Rattle.fold.specs.Test.{both-of, sameList, same-list}
-use Rattle.day.specs.Answer.{Answer, gives, refuses}
+use Rattle.day.specs.Answer.{gives, refuses}
 use Rattle.day.specs.Sound.{dayLimits}
 use Rattle.known_days.specs.Lines.{sameAnswer, same-answer}
 use Rattle.parting.specs.Parting.{days}

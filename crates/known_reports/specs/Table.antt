@@ -4,7 +4,6 @@
 -- What a line says is `Holds` of Lines.antt. The reports come from the test program (tests/days, mode season-expect), which was written from the
 -- papers and has not seen these definitions.
 -- Assumes nothing.
-use mathlib.Core.Bool.{true, false}
 use mathlib.Core.List.{List, [], _∷_, _++_, List·Memᴰ}
 use Prim.Native.Nat.{ℕ}
 use lib.Dec.{T}

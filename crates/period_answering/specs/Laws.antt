@@ -1,11 +1,11 @@
 -- How the answer to a period's text comes about: a report that is given fits, and a refusal's two lines do.
 -- Assumes nothing.
 use mathlib.Core.Path.{_≡_, refl, sym, ap, _∙_, subst}
-use mathlib.Core.List.{List, map}
-use Prim.Native.Nat.{ℕ, _*_, _^_, _≤_, _<_}
+use mathlib.Core.List.{List}
+use Prim.Native.Nat.{ℕ, _*_, _≤_, _<_}
 use native.Mathlib.Omega.{arith}
 use lib.ListN.{length, getD, length-map}
-use Rattle.day.specs.Answer.{Answer, gives, refuses}
+use Rattle.day.specs.Answer.{Answer, gives}
 use Rattle.day.specs.Most.{mostCost, day-most-cost}
 use Rattle.day.specs.Sound.{dayLimits}
 use Rattle.planning.specs.Planning.{costArea, choiceArea}
@@ -15,11 +15,10 @@ use Rattle.day_figures.specs.Figures.{dayAnswer}
 use Rattle.day_figures.specs.Laws.{Within}
 use Rattle.period_report.specs.Report.{counters, mean, meansOf}
 use Rattle.period_report.specs.Laws.{small-more, tally-size, days-within, mean-most}
-use Rattle.period_report.specs.declared.Means.{Means}
 use Rattle.period_report.specs.declared.Report.{Report}
 use Rattle.report_text.specs.ReportText.{reportText}
 use Rattle.report_text.specs.Laws.{Countable}
-use Rattle.report_text.specs.Size.{reportBytes, mostTotal, MeanWithin, MeansWithin, Moderate, report-size}
+use Rattle.report_text.specs.Size.{reportBytes, mostTotal, MeanWithin, MeansWithin, report-size}
 use Rattle.reporting.specs.Period.{answers, periodReport}
 use Rattle.reporting.specs.Promised.{report-is, report-most}
 use Rattle.period_answering.specs.PeriodAnswering.{periodText}

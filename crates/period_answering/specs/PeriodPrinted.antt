@@ -3,7 +3,7 @@
 --                    the two lines of 22, and no totals.
 -- reporting's Promised.antt and day_figures' Means.antt say what the figures are.
 -- Assumes nothing.
-use mathlib.Core.Path.{_≡_, refl, ap, _∙_}
+use mathlib.Core.Path.{_≡_, ap}
 use mathlib.Core.List.{List, map}
 use mathlib.Core.Logic.{_⊎_, inl, inr, ⊎-elim}
 use Prim.Native.Nat.{ℕ, _≤_, _<_}

@@ -4,7 +4,7 @@ use mathlib.Core.Path.{_≡_, refl, sym, ap, ap₂, _∙_, subst}
 use mathlib.Core.Bool.{Bool, true, false, cond}
 use mathlib.Core.List.{List, [], _∷_, _++_, map}
 use mathlib.Core.Logic.{_⊎_, inl, inr, ⊎-elim, _≢_}
-use Prim.Native.Nat.{ℕ, zero, suc, _+_, _*_, _/_, _%_, _^_, _≤_, _<_}
+use Prim.Native.Nat.{ℕ, suc, _+_, _*_, _/_, _%_, _^_, _≤_, _<_}
 use native.Mathlib.Nat.{suc-mul, add-zero, mod-lt, div-add-mod', le-refl, le-trans, mul-le-mul}
 use native.Mathlib.Omega.{arith}
 use lib.Dec.{eqb}
@@ -14,7 +14,7 @@ use borrow.Author.Tests.{eq-eqb, ne-eqb}
 use Rattle.fold.specs.Fold.{bit, sum}
 use Rattle.fold.specs.Sums.{sum-ext, sum-add, sum-zero, sum-only}
 use Rattle.fold.specs.Counting.{same-or, le-or-lt, bit-le}
-use Rattle.fold.specs.Listed.{listed, length-listed, listed-at, listed-ext}
+use Rattle.fold.specs.Listed.{listed, length-listed, listed-at}
 use Rattle.day.specs.Answer.{Answer, gives, refuses, code, whereGiven}
 use Rattle.day_figures.specs.Laws.{Within, Small}
 use Rattle.day_figures.specs.declared.Figures.{Figures}

@@ -3,7 +3,7 @@
 // Proved: `no_tally` is that of no days, `add_day` adds a day to one that has room, and `with_means` divides, as specs/Report.antt says.
 // Assumes nothing.
 ghost use mathlib.Core.Path.{_≡_};
-ghost use Prim.Native.Nat.{_+_, _≤_, _<_, _^_};
+ghost use Prim.Native.Nat.{_+_, _<_, _^_};
 ghost use mathlib.Core.List.{[]};
 ghost use lib.ListN.{length, getD, set};
 ghost use Rattle.day_figures.specs.Figures.{answer};

@@ -11,7 +11,6 @@ use lib.ListN.{length, drop, length-append, length-map}
 use Rattle.day.specs.Answer.{Answer, gives, refuses, judged}
 use Rattle.day.specs.Most.{mostCost, day-most-cost}
 use Rattle.day.specs.Sound.{dayLimits}
-use Rattle.day.specs.declared.Limits.{Limits}
 use Rattle.day.specs.declared.Verdict.the-variants.{Accepted}
 use Rattle.planning.specs.Planning.{areasSuffice}
 use Rattle.parting.specs.Parting.{daysFrom, days}
@@ -21,8 +20,8 @@ use Rattle.day_figures.specs.Figures.{dayAnswer}
 use Rattle.day_figures.specs.Laws.{Small}
 use Rattle.day_figures.specs.Means.{day-small}
 use Rattle.day_figures.specs.declared.Figures.{Figures}
-use Rattle.period_report.specs.Report.{tallyOf, withMeans, reportOf}
-use Rattle.period_report.specs.Laws.{Each, each-map, added, tally-next, Light, tally-light, small-number, small-more}
+use Rattle.period_report.specs.Report.{tallyOf, reportOf}
+use Rattle.period_report.specs.Laws.{each-map, added, tally-next, Light, tally-light, small-number, small-more}
 use Rattle.period_report.specs.declared.Report.{Report}
 use Rattle.period_report.specs.declared.Tally.{Tally}
 use Rattle.reporting.specs.Period.{mostDays, answers, periodReport, reportOrZero, periodBegins}

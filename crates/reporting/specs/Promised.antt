@@ -17,21 +17,21 @@
 --   periods-add     the tally over two periods is the sum of their tallies.
 -- Assumes nothing.
 use mathlib.Core.Path.{_≡_, refl, sym, ap, ap₂, _∙_, subst}
-use mathlib.Core.Bool.{Bool, true, false}
+use mathlib.Core.Bool.{true}
 use mathlib.Core.List.{List, [], _∷_, _++_, map}
-use mathlib.Core.Logic.{_⊎_, inl, inr, ⊎-elim}
+use mathlib.Core.Logic.{_⊎_}
 use Prim.Native.Nat.{ℕ, suc, _+_, _*_, _≤_, _<_}
-use native.Mathlib.Nat.{le-trans, mul-le-mul-right}
+use native.Mathlib.Nat.{mul-le-mul-right}
 use native.Mathlib.Omega.{arith}
 use lib.Dec.{leb, eqb, leb→le}
 use lib.ListN.{length, getD, drop, replicate, length-map}
 use borrow.Author.Tests.{le-leb, lt-leb, ne-eqb}
 use Rattle.fold.specs.Fold.{bit, sum}
 use Rattle.fold.specs.Sums.{sum-cons}
-use Rattle.fold.specs.Listed.{listed, listed-at, listed-ext}
+use Rattle.fold.specs.Listed.{listed, listed-at}
 use Rattle.fold.specs.Test.{is-true}
-use Rattle.day.specs.Answer.{Answer, gives, refuses, code, whereGiven, checked}
-use Rattle.day.specs.AnswerLaws.{Only, gives-same, checked-gives, checked-holds, refused-holding}
+use Rattle.day.specs.Answer.{Answer, gives, refuses, code, whereGiven}
+use Rattle.day.specs.AnswerLaws.{Only, gives-same, checked-gives, refused-holding}
 use Rattle.day.specs.Most.{mostCost}
 use Rattle.day.specs.Sound.{dayLimits}
 use Rattle.planning.specs.Planning.{costArea, choiceArea, areasSuffice, openWords, Stays}

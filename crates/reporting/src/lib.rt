@@ -5,7 +5,6 @@
 // refusal; no byte of the text changes, and of the two areas only the words that every day can be planned in. specs/Promised.antt draws the
 // order's sentences from this. Assumes nothing.
 ghost use mathlib.Core.Path.{_≡_};
-ghost use mathlib.Core.List.{[]};
 ghost use Prim.Native.Nat.{_≤_};
 ghost use lib.ListN.{length};
 ghost use Rattle.day.specs.Answer.{refusal, judged};

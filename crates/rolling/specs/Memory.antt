@@ -2,7 +2,7 @@
 -- `choiceAfter`, as its contract says. Then
 --   change-memory, begin-memory   after any refusal but 9 and 16 no word has changed; words beyond the first 4,096 and the first 32,768 never do.
 -- Assumes nothing.
-use mathlib.Core.Path.{_≡_, refl, sym, ap, _∙_, subst}
+use mathlib.Core.Path.{_≡_, refl, sym, _∙_, subst}
 use mathlib.Core.Bool.{Bool, true, false}
 use mathlib.Core.List.{List}
 use Prim.Native.Nat.{ℕ}

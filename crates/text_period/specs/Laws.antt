@@ -1,7 +1,7 @@
 -- How the numbers of a report are told, and the header's words for them: which number stands where, what a refusal leaves, and that numbers
 -- beyond stay.
 -- Assumes nothing.
-use mathlib.Core.Path.{_≡_, refl, sym, ap, _∙_, subst}
+use mathlib.Core.Path.{_≡_, refl, sym, ap, _∙_}
 use mathlib.Core.Bool.{Bool, true, false, cond}
 use mathlib.Core.List.{List, [], _∷_, _++_, append-assoc}
 use Prim.Native.Nat.{ℕ, _+_, _≤_, _<_}
@@ -16,7 +16,7 @@ use Rattle.day.specs.Sound.{dayLimits}
 use Rattle.decimal.specs.Place.{Put}
 use Rattle.output.specs.Laws.{put-list}
 use Rattle.planning.specs.Planning.{costArea, choiceArea}
-use Rattle.telling.specs.Telling.{toldBy, afterBy}
+use Rattle.telling.specs.Telling.{toldBy}
 use Rattle.telling.specs.Laws.{numbers-told, numbers-kept}
 use Rattle.parting.specs.Parting.{days}
 use Rattle.period_report.specs.Report.{total, counters, tallyOf, mean, reportOf}

@@ -1,6 +1,6 @@
 -- `day_figures::day_of` meets its contract. The two cases of reading.
 -- Assumes nothing.
-use mathlib.Core.Path.{_≡_, sym, ap, _∙_}
+use mathlib.Core.Path.{sym, ap, _∙_}
 use borrow.Author.Needs.{needs}
 use Rattle.day.specs.Answer.{judged}
 use Rattle.day.specs.Sound.{dayLimits, yard}

@@ -1,6 +1,6 @@
 -- `day_figures::figures_of` meets its contract. The plan's numbers, the saving, and the boxes, which its moves add up to.
 -- Assumes nothing.
-use mathlib.Core.Path.{_≡_, _∙_}
+use mathlib.Core.Path.{_≡_}
 use Prim.Native.Nat.{_+_}
 use native.Mathlib.Omega.{arith}
 use borrow.Author.Needs.{needs}

@@ -1,21 +1,20 @@
 -- `reporting::report_period` meets its contract: the checks 10 and 22 in this order, then the report. The days are planned in the front of each
 -- area, so what lies beyond stays.
 -- Assumes nothing.
-use mathlib.Core.Path.{_≡_, refl, sym, ap, _∙_}
-use mathlib.Core.Bool.{Bool, true, false}
+use mathlib.Core.Path.{_≡_, sym, ap, _∙_}
+use mathlib.Core.Bool.{true}
 use Prim.Native.Nat.{_≤_}
 use lib.Dec.{leb, leb→le}
-use lib.ListN.{length, take, drop}
+use lib.ListN.{length, drop}
 use lib.Seq.{length-take-le}
 use borrow.Author.Needs.{needs}
 use borrow.Author.Tests.{not-true, not-false}
 use Rattle.fold.specs.Test.{of-true, both-of}
 use Rattle.fold.specs.Listed.{drop-front}
-use Rattle.day.specs.Answer.{gives}
 use Rattle.day.specs.Sound.{dayLimits}
-use Rattle.planning.specs.Planning.{costArea, choiceArea, areasSuffice, openWords, Stays}
+use Rattle.planning.specs.Planning.{costArea, choiceArea, areasSuffice}
 use Rattle.parting.specs.Parting.{days}
-use Rattle.period_report.specs.Report.{withMeans, reportOf}
+use Rattle.period_report.specs.Report.{withMeans}
 use Rattle.period_report.specs.Laws.{tally-size}
 use Rattle.period_report.specs.declared.Tally.{Tally}
 use Rattle.reporting.specs.Period.{mostDays, answers}

@@ -1,6 +1,6 @@
 -- `reporting::tally_days` meets its contract. The loop's invariant: the days passed are in the tally, and the areas have their lengths.
 -- Assumes nothing.
-use mathlib.Core.Path.{_≡_, sym, ap, _∙_, subst}
+use mathlib.Core.Path.{_≡_, sym, _∙_, subst}
 use Prim.Native.Nat.{_-_, _^_}
 use native.Mathlib.Omega.{arith}
 use lib.ListN.{length}

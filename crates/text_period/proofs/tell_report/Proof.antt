@@ -1,6 +1,6 @@
 -- `text_period::tell_report` meets its contract. The room, then the report or the refusal; in both cases the report beside it is stored.
 -- Assumes nothing.
-use mathlib.Core.Path.{_≡_, refl, sym, ap, _∙_}
+use mathlib.Core.Path.{_≡_, sym, ap, _∙_}
 use native.Mathlib.Omega.{arith}
 use lib.ListN.{length}
 use borrow.Author.Needs.{needs}
