@@ -4,13 +4,14 @@
 use mathlib.Core.Path.{_≡_, refl, sym, ap, ap₂, _∙_}
 use mathlib.Core.Bool.{Bool, true, false, cond, not, _&&_}
 use mathlib.Core.List.{List, [], _∷_, _++_, append-nil}
-use Prim.Native.Nat.{ℕ, suc, _+_, _≤_, _<_}
+use Prim.Native.Nat.{ℕ, zero, suc, _+_, _≤_, _<_}
 use native.Mathlib.Omega.{arith}
 use lib.Dec.{T, eqb, eqb→eq}
 use lib.ListN.{length, length-append}
 use Rattle.fold.specs.Test.{of-true}
-use Rattle.fold.specs.Fold.{bit}
-use Rattle.parting.specs.Parting.{before, daysFrom, days, emptyLines, joinedFiles}
+use Rattle.fold.specs.Fold.{bit, sum, count}
+use Rattle.fold.specs.Sums.{sum-ext, sum-cons}
+use Rattle.parting.specs.Parting.{before, daysFrom, days, emptyAt, emptyLines, joinedFiles}
 
 -- ---- a text is empty or not
 
@@ -24,17 +25,28 @@ days-none (c ∷ text) h = absurd (omega arith)
 
 -- ---- the number of days
 
+-- those of the first byte, and of the rest
+empty-next : (start : Bool) (c : ℕ) (s : List ℕ) → emptyLines start (c ∷ s) ≡ emptyLines (eqb c 10) s + bit (start && eqb c 10)
+unfolding count
+empty-next start c s =
+    sum-cons (length s) (λ i. bit (emptyAt start (c ∷ s) i))
+    ∙ ap (λ k. k + bit (start && eqb c 10)) (sum-ext (length s) (λ i. bit (emptyAt start (c ∷ s) (suc i))) (λ i. bit (emptyAt (eqb c 10) s i)) (λ i h. ap bit (same i)))
+  where
+    same : (i : ℕ) → emptyAt start (c ∷ s) (suc i) ≡ emptyAt (eqb c 10) s i
+    same zero = refl
+    same (suc i) = refl
+
 length-before : (c : ℕ) (ds : List (List ℕ)) (k : ℕ) → length ds ≡ suc k → length (before c ds) ≡ suc k
 length-before c [] k e = absurd (omega arith)
 length-before c (d ∷ ds) k e = e
 
 pub days-count : (start : Bool) (s : List ℕ) → length (daysFrom start s) ≡ suc (emptyLines start s)
-unfolding daysFrom emptyLines
+unfolding daysFrom count sum
 days-count start [] = refl
-days-count start (c ∷ s) = go start (eqb c 10) (days-count true s) (days-count (eqb c 10) s)
+days-count start (c ∷ s) = go start (eqb c 10) (days-count true s) (days-count (eqb c 10) s) ∙ ap suc (sym (empty-next start c s))
   where
     go : (start b : Bool) → length (daysFrom true s) ≡ suc (emptyLines true s) → length (daysFrom b s) ≡ suc (emptyLines b s)
-        → length (cond (start && b) ([] ∷ daysFrom true s) (before c (daysFrom b s))) ≡ suc (bit (start && b) + emptyLines b s)
+        → length (cond (start && b) ([] ∷ daysFrom true s) (before c (daysFrom b s))) ≡ suc (emptyLines b s + bit (start && b))
     go true true p q = omega arith
     go true false p q = let e = length-before c (daysFrom false s) (emptyLines false s) q in omega arith
     go false b p q = let e = length-before c (daysFrom b s) (emptyLines b s) q in omega arith

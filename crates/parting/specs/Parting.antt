@@ -3,9 +3,10 @@
 -- Assumes nothing.
 use mathlib.Core.Bool.{Bool, true, cond, _&&_}
 use mathlib.Core.List.{List, [], _∷_, _++_}
-use Prim.Native.Nat.{ℕ, _+_}
+use Prim.Native.Nat.{ℕ, zero, suc}
 use lib.Dec.{eqb}
-use Rattle.fold.specs.Fold.{bit}
+use lib.ListN.{length, getD}
+use Rattle.fold.specs.Fold.{count}
 
 -- a byte put before the first day
 abbrev pub before : ℕ → List (List ℕ) → List (List ℕ)
@@ -23,10 +24,17 @@ days (c ∷ s) = daysFrom true (c ∷ s)
 
 -- ---- what the laws speak of
 
+-- the byte at i is an empty line: it is a byte 10, and a line begins there, at the start or behind another byte 10
+abbrev pub lineBegins : Bool → List ℕ → ℕ → Bool
+lineBegins start s zero = start
+lineBegins start s (suc i) = eqb (getD s i 0) 10
+
+abbrev pub emptyAt : Bool → List ℕ → ℕ → Bool
+emptyAt start s i = lineBegins start s i && eqb (getD s i 0) 10
+
 -- the empty lines from a place on
-unfoldable pub emptyLines : Bool → List ℕ → ℕ
-emptyLines start [] = 0
-emptyLines start (c ∷ s) = bit (start && eqb c 10) + emptyLines (eqb c 10) s
+abbrev pub emptyLines : Bool → List ℕ → ℕ
+emptyLines start s = count (length s) (emptyAt start s)
 
 -- files joined in one text with an empty line between
 unfoldable pub joinedFiles : List (List ℕ) → List ℕ
