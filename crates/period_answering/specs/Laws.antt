@@ -2,11 +2,10 @@
 -- Assumes nothing.
 use mathlib.Core.Path.{_≡_, refl, sym, ap, _∙_, subst}
 use mathlib.Core.List.{List}
-use Prim.Native.Nat.{ℕ, _*_, _≤_, _<_}
+use Prim.Native.Nat.{ℕ, _≤_, _<_}
 use native.Mathlib.Omega.{arith}
 use lib.ListN.{length, getD, length-map}
 use Rattle.day.specs.Answer.{Answer, gives}
-use Rattle.day.specs.Most.{mostCost, day-most-cost}
 use Rattle.day.specs.Sound.{dayLimits}
 use Rattle.planning.specs.Planning.{costArea, choiceArea}
 use Rattle.answering.specs.Answering.{replyBy}
@@ -14,7 +13,7 @@ use Rattle.parting.specs.Parting.{days}
 use Rattle.day_figures.specs.Figures.{dayAnswer}
 use Rattle.day_figures.specs.Laws.{Within}
 use Rattle.period_report.specs.Report.{counters, mean, meansOf}
-use Rattle.period_report.specs.Laws.{small-more, tally-size, days-within, mean-most}
+use Rattle.period_report.specs.Laws.{tally-size, days-within, mean-most}
 use Rattle.period_report.specs.declared.Report.{Report}
 use Rattle.report_text.specs.ReportText.{reportText}
 use Rattle.report_text.specs.Laws.{Countable}
@@ -48,7 +47,7 @@ module _ (text : List ℕ) (r : Report) (said : periodReport dayLimits text cost
   }
 
   totals : Within mostTotal (r .totals)
-  totals = small-more (366 * mostCost dayLimits) mostTotal (gives (r .totals)) (omega (arith, day-most-cost)) (report-most text costArea choiceArea r said)
+  totals = report-most text costArea choiceArea r said
 
   -- a mean's two numbers are no more than its total
   mean-within : (total planned : ℕ) → total ≤ mostTotal → MeanWithin mostTotal (mean total planned)

@@ -133,10 +133,14 @@ tally-size answers = length-listed counters (daysUnder answers)
 
 -- ---- no sum wraps: a tally that takes one day more, and a day that it takes
 
+-- two numbers up to here have a sum of 64 bits
+abbrev pub sumLimit : ℕ
+sumLimit = 2 ^ 62
+
 pub record Light (t : Tally) : Type 0 where
   pub size : length (t .days) ≡ counters
-  pub days : (k : ℕ) → k < counters → getD (t .days) k 0 < 2 ^ 62
-  pub totals : Within (2 ^ 62) (t .totals)
+  pub days : (k : ℕ) → k < counters → getD (t .days) k 0 < sumLimit
+  pub totals : Within sumLimit (t .totals)
 
 pub small-number : (m : ℕ) (a : Answer Figures) → Small m a → code a < counters
 small-number m (gives f) s = omega arith
@@ -176,7 +180,7 @@ pub days-within : (answers : List (Answer Figures)) (k : ℕ) → k < counters �
 unfolding tallyOf
 days-within answers k h = omega (arith, listed-at counters (daysUnder answers) 0 k h, total-most (λ a. bit (eqb (code a) k)) 1 answers (all-bits k answers))
 
-pub tally-light : (m : ℕ) (answers : List (Answer Figures)) → Each (Small m) answers → length answers < 2 ^ 62 → length answers * m ≤ 2 ^ 62 → Light (tallyOf answers)
+pub tally-light : (m : ℕ) (answers : List (Answer Figures)) → Each (Small m) answers → length answers < sumLimit → length answers * m ≤ sumLimit → Light (tallyOf answers)
 unfolding tallyOf
 tally-light m answers small few fits =
     let w = totals-within m answers small in

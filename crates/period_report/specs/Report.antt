@@ -15,6 +15,10 @@ use Rattle.period_report.specs.declared.Mean.{Mean}
 use Rattle.period_report.specs.declared.Means.{Means}
 use Rattle.period_report.specs.declared.Report.{Report}
 
+-- "one report over up to 366 day files"
+abbrev pub mostDays : ℕ
+mostDays = 366
+
 -- ---- totals over the answers to the days, each its figures or a refusal
 
 -- a number of each day, added up

@@ -3,13 +3,13 @@
 // Proved: `no_tally` is that of no days, `add_day` adds a day to one that has room, and `with_means` divides, as specs/Report.antt says.
 // Assumes nothing.
 ghost use mathlib.Core.Path.{_≡_};
-ghost use Prim.Native.Nat.{_+_, _<_, _^_};
+ghost use Prim.Native.Nat.{_+_, _<_};
 ghost use mathlib.Core.List.{[]};
 ghost use lib.ListN.{length, getD, set};
 ghost use Rattle.day_figures.specs.Figures.{answer};
 ghost use Rattle.period_report.specs.Report.{counters, mean, tallyOf, withMeans};
 ghost use Rattle.day_figures.specs.Laws.{Within, Small};
-ghost use Rattle.period_report.specs.Laws.{plus, added, Light};
+ghost use Rattle.period_report.specs.Laws.{plus, added, sumLimit, Light};
 use day_figures::DayAnswer;
 use day_figures::Figures;
 
@@ -58,7 +58,7 @@ pub fn no_tally() -> Tally
 
 // The counters with one day more under a number.
 fn count_day(days: [u64; 27], number: u64) -> [u64; 27]
-    requires { ⌜ (number < counters) × (getD days number 0 < 2 ^ 62) ⌝ }
+    requires { ⌜ (number < counters) × (getD days number 0 < sumLimit) ⌝ }
     ensures { λ r. ⌜ r ≡ set days number (getD days number 0 + 1) ⌝ }
 {
     let k = number as usize;
@@ -69,7 +69,7 @@ fn count_day(days: [u64; 27], number: u64) -> [u64; 27]
 
 // Figures added up.
 fn add_figures(a: Figures, b: Figures) -> Figures
-    requires { ⌜ Within (2 ^ 62) a × Within (2 ^ 62) b ⌝ }
+    requires { ⌜ Within sumLimit a × Within sumLimit b ⌝ }
     ensures { λ r. ⌜ r ≡ plus a b ⌝ }
 {
     Figures {
@@ -83,7 +83,7 @@ fn add_figures(a: Figures, b: Figures) -> Figures
 
 // The tally with one day more: a planned day's figures are added, and a refused one is counted under its number.
 pub fn add_day(tally: Tally, day: DayAnswer) -> Tally
-    requires { ⌜ Light tally × Small (2 ^ 62) (answer day) ⌝ }
+    requires { ⌜ Light tally × Small sumLimit (answer day) ⌝ }
     ensures { λ r. ⌜ r ≡ added tally (answer day) ⌝ }
 {
     let days = tally.days;

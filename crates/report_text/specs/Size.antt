@@ -10,12 +10,14 @@ use lib.Dec.{eqb}
 use lib.ListN.{length, getD, length-append}
 use Rattle.fold.specs.Sums.{sum-bound}
 use Rattle.fold.specs.Listed.{joined}
-use Rattle.day.specs.Sound.{Range, range}
+use Rattle.day.specs.Most.{mostCost, day-most-cost}
+use Rattle.day.specs.Sound.{dayLimits, Range, range}
+use Rattle.decimal.specs.Decimal.{digits}
 use Rattle.day_figures.specs.Laws.{Within}
 use Rattle.lines.specs.Lines.{rowText, rowsText}
 use Rattle.lines.specs.RowSize.{mostInRow, digits-size, row-size}
 use Rattle.output.specs.Laws.{rows-joined}
-use Rattle.period_report.specs.Report.{counters}
+use Rattle.period_report.specs.Report.{mostDays, counters}
 use Rattle.period_report.specs.declared.Mean.{Mean}
 use Rattle.period_report.specs.declared.Means.{Means}
 use Rattle.period_report.specs.declared.Report.{Report}
@@ -27,12 +29,12 @@ reportBytes = 512
 
 -- ---- a report whose numbers are moderate
 
--- the days of a year, and the greatest cost of a day (2206694520) so many times
-abbrev pub mostDays : ℕ
-mostDays = 366
-
+-- the greatest cost of a row, on as many days as a report has
 abbrev pub mostTotal : ℕ
-mostTotal = 807650194320
+mostTotal = mostDays * mostCost dayLimits
+
+total-digits : length (digits mostTotal) ≡ 12
+total-digits = digits-size 11 mostTotal (omega (arith, day-most-cost)) (omega (arith, day-most-cost))
 
 abbrev pub MeanWithin : ℕ → Mean → Type 0
 MeanWithin m a = (a .quotient ≤ m) × (a .remainder ≤ m)
@@ -66,12 +68,12 @@ figure-size total mean t m =
     omega (
       arith,
       row-size (totalRange ∷ totalRange ∷ totalRange ∷ []) (figureRow total mean) refl ((zero-le, t), ((zero-le, m .0), ((zero-le, m .1), tt))),
-      digits-size 11 mostTotal (omega arith) (omega arith),
+      total-digits,
     )
 
 saving-size : (savings : ℕ) → savings ≤ mostTotal → length (rowText (savings ∷ [])) ≤ 13
 unfolding mostInRow
-saving-size savings t = omega (arith, row-size (totalRange ∷ []) (savings ∷ []) refl ((zero-le, t), tt), digits-size 11 mostTotal (omega arith) (omega arith))
+saving-size savings t = omega (arith, row-size (totalRange ∷ []) (savings ∷ []) refl ((zero-le, t), tt), total-digits)
 
 module _ (days : List ℕ) (few : (k : ℕ) → k < counters → getD days k 0 ≤ mostDays) where
   refused-most : refusedDays days ≤ refusalCount * mostDays

@@ -3,7 +3,7 @@
 use mathlib.Core.Path.{_≡_, refl, sym, ap, _∙_, subst}
 use mathlib.Core.Bool.{true, false}
 use mathlib.Core.List.{List, [], _∷_, _++_, map, append-assoc}
-use Prim.Native.Nat.{ℕ, _+_, _*_, _^_, _≤_, _<_}
+use Prim.Native.Nat.{ℕ, _+_, _*_, _≤_, _<_}
 use native.Mathlib.Nat.{le-trans, mul-le-mul-right}
 use native.Mathlib.Omega.{arith}
 use lib.Dec.{leb}
@@ -20,17 +20,17 @@ use Rattle.day_figures.specs.Figures.{dayAnswer}
 use Rattle.day_figures.specs.Laws.{Small}
 use Rattle.day_figures.specs.Means.{day-small}
 use Rattle.day_figures.specs.declared.Figures.{Figures}
-use Rattle.period_report.specs.Report.{tallyOf, reportOf}
-use Rattle.period_report.specs.Laws.{each-map, added, tally-next, Light, tally-light, small-number, small-more}
+use Rattle.period_report.specs.Report.{mostDays, tallyOf, reportOf}
+use Rattle.period_report.specs.Laws.{each-map, added, tally-next, sumLimit, Light, tally-light, small-number, small-more}
 use Rattle.period_report.specs.declared.Report.{Report}
 use Rattle.period_report.specs.declared.Tally.{Tally}
-use Rattle.reporting.specs.Period.{mostDays, answers, periodReport, reportOrZero, periodBegins}
+use Rattle.reporting.specs.Period.{answers, periodReport, reportOrZero, periodBegins}
 use Rattle.reporting.specs.declared.Reported.{Reported}
 
 -- ---- no sum wraps
 
 -- so many days as a report has, at the greatest cost of a row each, fit
-most-fits : mostDays * mostCost dayLimits ≤ 2 ^ 62
+most-fits : mostDays * mostCost dayLimits ≤ sumLimit
 most-fits = omega (arith, day-most-cost)
 
 -- the tally of some days of a period takes another one
@@ -41,8 +41,8 @@ days-light texts few =
     tally-light (mostCost dayLimits) (map (dayAnswer dayLimits) texts) (each-map (Small (mostCost dayLimits)) (dayAnswer dayLimits) day-small texts)
     (omega arith) (le-trans (mul-le-mul-right {m = length (map (dayAnswer dayLimits) texts)} {n = mostDays} (mostCost dayLimits) long) most-fits)
 
-pub day-light : (text : List ℕ) → Small (2 ^ 62) (dayAnswer dayLimits text)
-day-light text = small-more (mostCost dayLimits) (2 ^ 62) (dayAnswer dayLimits text) (omega (arith, day-most-cost)) (day-small text)
+pub day-light : (text : List ℕ) → Small sumLimit (dayAnswer dayLimits text)
+day-light text = small-more (mostCost dayLimits) sumLimit (dayAnswer dayLimits text) (omega (arith, day-most-cost)) (day-small text)
 
 -- ---- the days up to a place are in the tally
 
@@ -75,7 +75,7 @@ module _ {text : List ℕ} {at : ℕ} {tally : Tally} (t : Tallied text at tally
     grown : next ≡ tallyOf (map (dayAnswer dayLimits) (t .done ++ (part text at end ∷ [])))
     grown =
         sum ∙ ap (λ (x : Tally). added x a) (t .is) ∙ ap (added (tallyOf (map (dayAnswer dayLimits) (t .done)))) is
-        ∙ sym (tally-next (map (dayAnswer dayLimits) (t .done)) (dayAnswer dayLimits (part text at end)) (small-number (2 ^ 62) (dayAnswer dayLimits (part text at end)) (day-light (part text at end))))
+        ∙ sym (tally-next (map (dayAnswer dayLimits) (t .done)) (dayAnswer dayLimits (part text at end)) (small-number sumLimit (dayAnswer dayLimits (part text at end)) (day-light (part text at end))))
         ∙ ap tallyOf (sym (map-next (dayAnswer dayLimits) (t .done) (part text at end)))
 
     -- an empty line follows

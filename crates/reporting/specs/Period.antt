@@ -12,12 +12,8 @@ use Rattle.planning.specs.Planning.{areasSuffice}
 use Rattle.parting.specs.Parting.{days}
 use Rattle.day_figures.specs.Figures.{dayAnswer}
 use Rattle.day_figures.specs.declared.Figures.{Figures}
-use Rattle.period_report.specs.Report.{reportOf}
+use Rattle.period_report.specs.Report.{mostDays, reportOf}
 use Rattle.period_report.specs.declared.Report.{Report}
-
--- "one report over up to 366 day files"
-abbrev pub mostDays : ℕ
-mostDays = 366
 
 -- the answers to the days of a text
 abbrev pub answers : Limits → List ℕ → List (Answer Figures)

@@ -43,12 +43,12 @@ use Rattle.day_figures.specs.Figures.{dayAnswer}
 use Rattle.day_figures.specs.Laws.{Within, Small, Moved}
 use Rattle.day_figures.specs.Means.{DayRefusal, day-only, day-moved, day-small}
 use Rattle.day_figures.specs.declared.Figures.{Figures}
-use Rattle.period_report.specs.Report.{total, daysUnder, totalOf, counters, tallyOf, mean, meansOf, reportOf}
+use Rattle.period_report.specs.Report.{mostDays, total, daysUnder, totalOf, counters, tallyOf, mean, meansOf, reportOf}
 use Rattle.period_report.specs.Laws.{total-join, Each, each-map, total-sum, total-most, plus, small-number, small-more, totals-within, all-counted, mean-none, mean-exact}
 use Rattle.period_report.specs.declared.Mean.{Mean}
 use Rattle.period_report.specs.declared.Means.{Means as MeanFigures}
 use Rattle.period_report.specs.declared.Report.{Report}
-use Rattle.reporting.specs.Period.{mostDays, answers, periodChecks, periodReport, reportOrZero, periodBegins}
+use Rattle.reporting.specs.Period.{answers, periodChecks, periodReport, reportOrZero, periodBegins}
 
 -- ---- when a report is given, and what is refused
 

@@ -19,9 +19,9 @@ use Rattle.planning.specs.Planning.{costArea, choiceArea}
 use Rattle.telling.specs.Telling.{toldBy}
 use Rattle.telling.specs.Laws.{numbers-told, numbers-kept}
 use Rattle.parting.specs.Parting.{days}
-use Rattle.period_report.specs.Report.{total, counters, tallyOf, mean, reportOf}
+use Rattle.period_report.specs.Report.{mostDays, total, counters, tallyOf, mean, reportOf}
 use Rattle.period_report.specs.declared.Report.{Report}
-use Rattle.reporting.specs.Period.{mostDays, answers, periodReport, reportOrZero}
+use Rattle.reporting.specs.Period.{answers, periodReport, reportOrZero}
 use Rattle.text_period.specs.TextPeriod.{reportCount, meanNumbers, reportNumbers, reportFor, reportAfter}
 
 -- ---- the numbers of a report

@@ -1,7 +1,7 @@
 -- `period_report::add_day` meets its contract. A planned day and a refused one, each counted under its number.
 -- Assumes nothing.
 use mathlib.Core.Path.{sym, ap, _∙_, subst}
-use Prim.Native.Nat.{_<_, _^_}
+use Prim.Native.Nat.{_<_}
 use native.Mathlib.Omega.{arith}
 use borrow.Author.Needs.{needs}
 use Rattle.day.specs.Answer.{number, carried}
@@ -9,7 +9,7 @@ use Rattle.refusals.specs.Numbers.{number-most}
 use Rattle.day_figures.specs.Figures.{answer}
 use Rattle.day_figures.specs.Laws.{Small}
 use Rattle.day_figures.specs.declared.DayAnswer.{DayAnswer}
-use Rattle.period_report.specs.Laws.{added, added-planned, added-refused}
+use Rattle.period_report.specs.Laws.{added, added-planned, added-refused, sumLimit}
 use Rattle.period_report.proofs.add_day.Statement.{statement}
 use Rattle.period_report.proofs.add_day.Tie as tie
 
@@ -29,7 +29,7 @@ count-day-requires c κs = (omega arith, start c .pre .0 .days 0 (omega arith))
 add-figures-requires : tie.Need-add-figures-requires
 add-figures-requires c κs =
     let p = c .before in
-    (start p .pre .0 .totals, subst (λ (d : DayAnswer). Small (2 ^ 62) (answer d)) (p .before .day .given .1) (start p .pre .1))
+    (start p .pre .0 .totals, subst (λ (d : DayAnswer). Small sumLimit (answer d)) (p .before .day .given .1) (start p .pre .1))
 
 enum-known-day-2 : tie.Need-enum-known-day-2
 enum-known-day-2 c = search needs

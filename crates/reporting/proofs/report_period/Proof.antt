@@ -14,10 +14,10 @@ use Rattle.fold.specs.Listed.{drop-front}
 use Rattle.day.specs.Sound.{dayLimits}
 use Rattle.planning.specs.Planning.{costArea, choiceArea, areasSuffice}
 use Rattle.parting.specs.Parting.{days}
-use Rattle.period_report.specs.Report.{withMeans}
+use Rattle.period_report.specs.Report.{mostDays, withMeans}
 use Rattle.period_report.specs.Laws.{tally-size}
 use Rattle.period_report.specs.declared.Tally.{Tally}
-use Rattle.reporting.specs.Period.{mostDays, answers}
+use Rattle.reporting.specs.Period.{answers}
 use Rattle.reporting.specs.Laws.{says-short, says-many, says-report}
 use Rattle.reporting.proofs.report_period.Statement.{statement}
 use Rattle.reporting.proofs.report_period.Tie as tie

@@ -1,12 +1,13 @@
 -- `reporting::tally_days` meets its contract. The loop's invariant: the days passed are in the tally, and the areas have their lengths.
 -- Assumes nothing.
 use mathlib.Core.Path.{_≡_, sym, _∙_, subst}
-use Prim.Native.Nat.{_-_, _^_}
+use Prim.Native.Nat.{_-_}
 use native.Mathlib.Omega.{arith}
 use lib.ListN.{length}
 use borrow.Author.Needs.{needs}
 use Rattle.planning.specs.Planning.{costArea, choiceArea}
 use Rattle.day_figures.specs.Laws.{Small}
+use Rattle.period_report.specs.Laws.{sumLimit}
 use Rattle.reporting.specs.Laws.{Tallied, day-light, tallied-empty, tallied-none, tallied-light, tallied-next, tallied-last}
 use Rattle.reporting.proofs.tally_days.Statement.{statement}
 use Rattle.reporting.proofs.tally_days.Tie as tie
@@ -59,7 +60,7 @@ add-day-requires : tie.Need-add-day-requires Inv-loop μ-loop
 add-day-requires c κs =
     let d = c .before .before .before .before in
     let t = searched d .before in
-    (tallied-light (t .loop .inv .0) (start t .pre .0), subst (Small (2 ^ 62)) (sym (d .day-of .ensures)) (day-light _))
+    (tallied-light (t .loop .inv .0) (start t .pre .0), subst (Small sumLimit) (sym (d .day-of .ensures)) (day-light _))
 
 same-length : tie.Need-same-length Inv-loop μ-loop
 same-length c = search needs
