@@ -23,7 +23,7 @@ answer (Refused r) = refusal r
 
 -- ---- the figures of a planned day
 
--- what first come's row costs more than the plan, which is never less (`saved-exact`); nothing where it has no allowed row
+-- what first come's row costs more than the plan (it costs no less: `saved-covers`); nothing where it gives no allowed row
 abbrev pub saved : Outcome → Answer Comparison → ℕ
 saved best first = whereGiven first 0 λ c. c .outcome .cost - best .cost
 

@@ -183,17 +183,10 @@ days-within answers k h = omega (arith, listed-at counters (daysUnder answers) 0
 pub tally-light : (m : ℕ) (answers : List (Answer Figures)) → Each (Small m) answers → length answers < sumLimit → length answers * m ≤ sumLimit → Light (tallyOf answers)
 unfolding tallyOf
 tally-light m answers small few fits =
-    let w = totals-within m answers small in
     record {
       size = tally-size answers;
       days = λ k h. omega (arith, days-within answers k h);
-      totals = record {
-        revisits = le-trans (w .revisits) fits;
-        splits = le-trans (w .splits) fits;
-        direct = le-trans (w .direct) fits;
-        boxes = le-trans (w .boxes) fits;
-        savings = le-trans (w .savings) fits;
-      };
+      totals = small-more (length answers * m) sumLimit (gives (tallyOf answers .totals)) fits (totals-within m answers small);
     }
 
 -- ---- every day is counted once

@@ -22,15 +22,9 @@ use Rattle.parting.specs.Parting.{days}
 use Rattle.period_report.specs.Report.{mostDays, total, counters, tallyOf, mean, reportOf}
 use Rattle.period_report.specs.declared.Report.{Report}
 use Rattle.reporting.specs.Period.{answers, periodReport, reportOrZero}
-use Rattle.text_period.specs.TextPeriod.{reportCount, meanNumbers, reportNumbers, reportFor, reportAfter}
+use Rattle.text_period.specs.TextPeriod.{reportCount, figureNumbers, reportNumbers, reportFor, reportAfter}
 
 -- ---- the numbers of a report
-
--- behind the counters
-abbrev figureNumbers : Report → List ℕ
-figureNumbers r =
-    r .totals .revisits ∷ r .totals .splits ∷ r .totals .direct ∷ r .totals .boxes ∷ r .totals .savings
-    ∷ (meanNumbers (r .means .revisits) ++ meanNumbers (r .means .splits) ++ meanNumbers (r .means .direct) ++ meanNumbers (r .means .boxes))
 
 pub numbers-length : (r : Report) → length (r .days) ≡ counters → length (reportNumbers r) ≡ reportCount
 numbers-length r e = omega (arith, length-append (r .days) (figureNumbers r), e)

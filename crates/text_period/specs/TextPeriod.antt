@@ -19,12 +19,15 @@ reportCount = 40
 abbrev pub meanNumbers : Mean → List ℕ
 meanNumbers m = m .quotient ∷ m .remainder ∷ []
 
+-- the totals, and behind them the means
+abbrev pub figureNumbers : Report → List ℕ
+figureNumbers r =
+    r .totals .revisits ∷ r .totals .splits ∷ r .totals .direct ∷ r .totals .boxes ∷ r .totals .savings
+    ∷ (meanNumbers (r .means .revisits) ++ meanNumbers (r .means .splits) ++ meanNumbers (r .means .direct) ++ meanNumbers (r .means .boxes))
+
 -- the days planned at 0 and those refused under k at k; the totals from 27 on; the means from 32 on
 abbrev pub reportNumbers : Report → List ℕ
-reportNumbers r =
-    r .days
-    ++ r .totals .revisits ∷ r .totals .splits ∷ r .totals .direct ∷ r .totals .boxes ∷ r .totals .savings
-    ∷ (meanNumbers (r .means .revisits) ++ meanNumbers (r .means .splits) ++ meanNumbers (r .means .direct) ++ meanNumbers (r .means .boxes))
+reportNumbers r = r .days ++ figureNumbers r
 
 -- the report over the days of a text, for a caller who lends room for `size` numbers and no areas: 10 where these are fewer
 unfoldable pub reportFor : Limits → List ℕ → ℕ → Answer Report
