@@ -1,7 +1,7 @@
 /* Plans a long day from C: reads a long day's file, prints the slot of each train and what the plan costs, and how far off it may be at
  * most.
  *
- *     rt staticlib yard
+ *     tools/build yard
  *     cc -Iinclude -o target/long_c embedding/long.c target/staticlib/libyard.a
  *     target/long_c examples/p01.day        (at width 30, as yard-long)
  *     target/long_c examples/p01.day 64     (the widest search)

@@ -2,7 +2,7 @@
  * prints the plan after each. All that is kept between two commands is the state of yard.h. `save` writes it as a text, so that a program
  * that was stopped can go on the next morning.
  *
- *     rt staticlib yard
+ *     tools/build yard
  *     cc -Iinclude -o target/moving embedding/moving.c target/staticlib/libyard.a
  *     target/moving examples/p01.day
  *         close                    closes the first open slot

@@ -1,7 +1,7 @@
 /* Plans a day from C: reads a day file, prints the slot of each train and what the plan costs; then values a row of one's own, every train
  * in slot 1.
  *
- *     rt staticlib yard
+ *     tools/build yard
  *     cc -Iinclude -o target/plan_c embedding/plan.c target/staticlib/libyard.a
  *     target/plan_c examples/p01.day
  *

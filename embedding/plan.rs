@@ -1,7 +1,7 @@
 //! Plans a day from Rust, through the C interface: reads a day file, prints the answer, then checks the text, plans it as slots and values
 //! P1's row; what is refused it says in words.
 //!
-//!     rt staticlib yard
+//!     tools/build yard
 //!     rustc -O --edition 2021 -L target/staticlib -o target/plan_rs embedding/plan.rs
 //!     target/plan_rs examples/p01.day
 

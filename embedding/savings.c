@@ -1,7 +1,7 @@
 /* What planning saves, from C: reads a day file and prints what first come, first served and the myopic procedure would cost, and the
  * saving.
  *
- *     rt staticlib yard
+ *     tools/build yard
  *     cc -Iinclude -o target/savings embedding/savings.c target/staticlib/libyard.a
  *     target/savings < examples/hub-10.day
  */

@@ -1,7 +1,7 @@
 /* Reports over the days of a season from C: joins day files, each followed by an empty line but the last, and prints how many were planned and
  * refused, the totals of those planned and their means.
  *
- *     rt staticlib yard
+ *     tools/build yard
  *     cc -Iinclude -o target/season_c embedding/season.c target/staticlib/libyard.a
  *     target/season_c examples/p01.day examples/p09.day examples/p12.day
  *

@@ -1,7 +1,7 @@
 /* Turns a small timetable into the train section of a day file: each train of the date gets its window from its arrival and its departure, and
  * the day as many slots as the date uses.
  *
- *     rt staticlib yard
+ *     tools/build yard
  *     cc -Iinclude -o target/timetable_c embedding/timetable.c target/staticlib/libyard.a
  *     target/timetable_c 20261118 > target/wednesday.day
  *

@@ -10,7 +10,7 @@
  * dates need little: the example of a timetable runs in 32 KB, what a C program needs by itself among it.
  *
  * Build the library with the Rattle kit and link it:
- *     rt staticlib yard                                   (writes target/staticlib/libyard.a)
+ *     tools/build yard                                    (writes target/staticlib/libyard.a)
  *     cc -Iinclude program.c target/staticlib/libyard.a
  *
  * Texts are bytes with a length; no zero byte ends them. Memory that is lent must have the length given beside it, and memory that a

@@ -115,7 +115,7 @@
 //! yard.h names row, any bytes. A group is one of trains (order 4), but in the
 //! parts that count and print what was run one of texts.
 //!
-//! Build: rt staticlib yard
+//! Build: tools/build yard
 //!        rustc -O --edition 2021 -L target/staticlib -o target/tests/days tests/days/main.rs
 
 mod account;
