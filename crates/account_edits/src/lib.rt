@@ -2,6 +2,8 @@
 //
 // Proved: on an account with a sound day each change gives what `edited` of rolling's Rolling.antt says where the checks of `change_checks`
 // there hold, else the refusal of the first that fails. Assumes nothing.
+#![tactic(auto)]
+
 ghost use Rattle.std.specs.Prelude.{◌≡◌, ◌&&◌, [], ◌∷◌, ◌≤◌, ◌<◌, T, ltb, eqb, get_or};
 ghost use Rattle.day.specs.Answer.{gives, refusal};
 ghost use Rattle.day.specs.Sound.{day_limits, yard, sound};
@@ -11,7 +13,7 @@ ghost use Rattle.account_edits.specs.Accounts.{account_in, change_in, answer, ma
 use day::{Day, Refusal, Verdict};
 
 // The plain account: the day as it was edited, the number of closed slots, and by position the slot of each served train, 0 of the others.
-#[derive(Drop)]
+#[derive(Clone, Copy)]
 pub struct Account {
     pub day: Day,
     pub closed: u8,
@@ -19,7 +21,7 @@ pub struct Account {
 }
 
 // A change. Trains are named by their numbers; every value is one that a check may refuse.
-#[derive(Drop)]
+#[derive(Clone, Copy)]
 pub enum Change {
     Cancel(u32),
     Add { number: u32, first: u32, last: u32 },
@@ -27,7 +29,7 @@ pub enum Change {
 }
 
 // The account as it was changed; or the refusal, and the account as it was.
-#[derive(Drop)]
+#[derive(Clone, Copy)]
 pub struct Edited {
     pub verdict: Verdict,
     pub account: Account,

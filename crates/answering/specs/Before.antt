@@ -9,8 +9,9 @@ use Rattle.std.proofs.Math.Path.{sym, ap}
 use Rattle.std.proofs.Common.{◌∙◌, subst}
 use Rattle.model.specs.Model
 use Rattle.model.specs.Model.{Yard, outcome, cost, fitting, allowed, precedes, Best, NoRow, FirstOverbooked, bound_inside}
-use Rattle.model.specs.Rows.{allowed_fits}
-use Rattle.model.specs.Groups.{NoGroups, without_groups}
+use Rattle.model.proofs.Rows.{allowed_fits}
+use Rattle.model.specs.Groups.{NoGroups}
+use Rattle.model.proofs.Groups.{without_groups}
 use Rattle.day.specs.Answer.{gives}
 use Rattle.day.specs.AnswerLaws.{gives_same}
 use Rattle.day.specs.Sound.{day_limits}
@@ -19,7 +20,7 @@ use Rattle.day.specs.declared.Limits.{Limits}
 use Rattle.dayfile.specs.Reading.{read_day}
 use Rattle.dayfile.specs.RoundTrip.{read_sound}
 use Rattle.dayfile.specs.Wider.{wider, accepted_before_groups}
-use Rattle.feasibility.specs.RowOrNone.{no_row_over, some_over}
+use Rattle.feasibility.proofs.RowOrNone.{no_row_over, some_over}
 use Rattle.planfile.specs.PlanText.{plan_lines}
 use Rattle.refusal_text.specs.RefusalText.{refusal_text}
 use Rattle.answering.specs.Answering.{reply, answer_text}

@@ -8,9 +8,10 @@ use Rattle.std.proofs.Math.Option.{Option, none, some}
 use Rattle.std.proofs.Math.ListN.{get_or-append}
 use Rattle.fold.specs.Listed.{listed_ext}
 use Rattle.model.specs.Model.{Yard, Outcome, outcome, allowed}
-use Rattle.model.specs.BestOf.{best_of, is_best}
+use Rattle.model.specs.BestOf.{best_of}
+use Rattle.model.proofs.BestOf.{is_best}
 use Rattle.model.specs.Overbooked.{Interval, first_overbooked}
-use Rattle.model.specs.Rows.{allowed_is}
+use Rattle.model.proofs.Rows.{allowed_is}
 use Rattle.day.specs.Answer.{Answer, gives, refuses, number, carried}
 use Rattle.day.specs.Sound.{day_limits, sound}
 use Rattle.day.specs.SoundLaws.{sound_is}
@@ -20,7 +21,7 @@ use Rattle.counting.specs.Counting.{figures_of}
 use Rattle.lines.specs.Lines.{row_text, rows_text}
 use Rattle.dayfile.specs.Reading.{read_day}
 use Rattle.planning.specs.Planning.{no_row, best_answer, placed}
-use Rattle.planning.specs.Answers.{none_answer, none_gives}
+use Rattle.planning.proofs.Answers.{none_answer, none_gives}
 use Rattle.refusal_text.specs.RefusalText.{refusal_text}
 use Rattle.refusal_text.specs.Laws.{refusal_bytes}
 use Rattle.planfile.specs.PlanText.{value_names, slot_names, slot_row, plan_lines, plan_text}

@@ -13,15 +13,18 @@ use Rattle.std.proofs.Common.{sym, ap, ◌∙◌, subst, arith}
 use Rattle.std.proofs.Math.Option.{Option, none, some}
 use Rattle.model.specs.Model
 use Rattle.model.specs.Model.{Yard, outcome, Best, SomeRow, NoRow, FirstOverbooked, bound_inside}
-use Rattle.model.specs.BestOf.{best_of, is_best, is_none_lem}
-use Rattle.model.specs.Fewest.{Outweighs, Fewest, best_fewest}
-use Rattle.model.specs.Overbooked.{Interval, first_overbooked, SaysFirst, first_says}
+use Rattle.model.specs.BestOf.{best_of}
+use Rattle.model.proofs.BestOf.{is_best, is_none_lem}
+use Rattle.model.specs.Fewest.{Outweighs, Fewest}
+use Rattle.model.proofs.Fewest.{best_fewest}
+use Rattle.model.specs.Overbooked.{Interval, first_overbooked, SaysFirst}
+use Rattle.model.proofs.Overbooked.{first_says}
 use Rattle.day.specs.Answer.{Answer, gives, refuses}
 use Rattle.day.specs.AnswerLaws.{gives_same, Only}
 use Rattle.day.specs.Sound.{day_limits}
 use Rattle.dayfile.specs.Reading.{read_day}
 use Rattle.dayfile.specs.Refused.{FileRefusal, Lined, read_lined}
-use Rattle.feasibility.specs.RowOrNone.{none_spacious}
+use Rattle.feasibility.proofs.RowOrNone.{none_spacious}
 use Rattle.planning.specs.Planning.{no_row}
 use Rattle.planfile.specs.PlanText.{plan_lines, plan_text}
 use Rattle.refusal_text.specs.RefusalText.{refusal_text}

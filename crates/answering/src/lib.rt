@@ -3,6 +3,8 @@
 //
 // Proved: for every text and every output `answer_text` answers and leaves what `answer_text` of specs/Answering.antt says, and as many
 // bytes of output as the greatest plan file has always suffice. Assumes nothing.
+#![tactic(auto)]
+
 ghost use Rattle.std.specs.Prelude.{◌≡◌, ◌≤◌, T, length};
 ghost use Rattle.model.specs.BestOf.{best_of};
 ghost use Rattle.day.specs.Sound.{day_limits, yard, sound};

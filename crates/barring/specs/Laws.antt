@@ -4,17 +4,18 @@
 use Rattle.std.specs.Prelude.{◌≡◌, Bool, true, false, cond, ◌&&◌, ◌||◌, List, ℕ, ◌+◌, ◌^◌, ◌<◌, T, eqb}
 use Rattle.std.proofs.Math.Path.{refl, ap}
 use Rattle.std.proofs.Common.{sym, ◌∙◌, subst, ⊎_elim, add-one, arith, eqb→eq, eq-eqb}
-use Rattle.std.proofs.Math.Bool.{and_true}
+use Rattle.std.proofs.Math.Bool.{and-true}
 use Rattle.std.specs.Int.Bits.{bit_and, and_zero_r}
 use Rattle.fold.specs.Test.{of_true, is_true, is_false, test, same_test_lem, both, both_of, left, right, either_of}
 use Rattle.fold.specs.Fold.{some, each, some_at, some_of, each_at, each_i}
 use Rattle.sets.specs.Mask.{has, mask, has-mask, mask_ext, mask_same, mask-has, mask_and, mask_empty}
 use Rattle.sets.specs.Rest.{has_none}
 use Rattle.model.specs.Model.{group_of, grouped}
-use Rattle.model.specs.Groups.{grouped_of, grouped_by}
-use Rattle.optimum.specs.Workspace.{at, kept_here, kept_then}
+use Rattle.model.proofs.Groups.{grouped_of, grouped_by}
+use Rattle.optimum.specs.Workspace.{at}
+use Rattle.optimum.proofs.Workspace.{kept_here, kept_then}
 use Rattle.staging.specs.Tables.{together, barred}
-use Rattle.staging.specs.Serving.{together_of, together_by}
+use Rattle.staging.proofs.Serving.{together_of, together_by}
 use Rattle.tables.specs.Filled.{Filled}
 
 -- barred by one test and then by another is barred by both
@@ -67,7 +68,7 @@ module _ (n : ℕ) (groups : List ℕ) where
         let empty : members n groups k ≡ 0 = mask_empty n (grouped groups k) (λ j l. is_false (grouped groups k j) (λ t. omega (arith, grouped_of groups k j t))) in
         record {
           kept = h.kept;
-          all = λ s l. h.all s l ∙ sym (ap (λ b. cond b (at price₀ s) barred) (whole-next k s ∙ ap (λ b. whole k n groups s && b) (at_none s empty) ∙ and_true (whole k n groups s)));
+          all = λ s l. h.all s l ∙ sym (ap (λ b. cond b (at price₀ s) barred) (whole-next k s ∙ ap (λ b. whole k n groups s && b) (at_none s empty) ∙ and-true (whole k n groups s)));
         }
       where
         at_none : (s : ℕ) → members n groups k ≡ 0 → undivided (members n groups k) s ≡ true

@@ -3,6 +3,8 @@
 //
 // Proved: `bar_groups` bars just these sets and leaves the other prices, and the words behind them. A train in no group costs nothing.
 // Assumes nothing.
+#![tactic(auto)]
+
 ghost use Rattle.std.specs.Prelude.{◌≡◌, cond, ◌^◌, ◌≤◌, ◌<◌, length};
 ghost use Rattle.optimum.specs.Workspace.{at};
 ghost use Rattle.staging.specs.Tables.{together, barred};

@@ -3,7 +3,7 @@
 -- procedure's row and the saving.
 -- Assumes nothing.
 use Rattle.std.specs.Prelude.{List, ℕ}
-use Rattle.model.specs.Model.{Yard, cost}
+use Rattle.model.specs.Model.{Yard}
 use Rattle.day.specs.Answer.{Answer, on_given}
 use Rattle.day.specs.declared.Limits.{Limits}
 use Rattle.planning.specs.Planning.{cost_words, choice_words, planned, begins, open_words}

@@ -2,7 +2,7 @@
 -- Assumes nothing.
 use Rattle.std.specs.Prelude.{◌≡◌, refl, List, ◌∷◌, ◌++◌, ℕ, zero, suc, ◌≤◌, length, take, drop, replicate}
 use Rattle.std.proofs.Common.{sym, ap, ◌∙◌, arith, length-append}
-use Rattle.model.specs.Model.{Yard, Outcome, cost}
+use Rattle.model.specs.Model.{Yard, Outcome}
 use Rattle.day.specs.Answer.{gives, refuses}
 use Rattle.day.specs.declared.Limits.{Limits}
 use Rattle.fold.specs.Listed.{take_front}

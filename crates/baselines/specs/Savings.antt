@@ -17,15 +17,16 @@ use Rattle.std.proofs.Math.Logic.{inl, inr, ⊎_elim}
 use Rattle.std.proofs.Math.IntN.{pos, pos-+ℤ-pos, +ℤ-neg_ℤ_cancel}
 use Rattle.fold.specs.Test.{of_true, is_false, test}
 use Rattle.model.specs.Model.{Yard, Outcome, outcome, cost, fitting, kept, allowed, Best}
-use Rattle.model.specs.Moves.{AllMoved, all_moved}
-use Rattle.model.specs.Rows.{fits_allowed}
+use Rattle.model.specs.Moves.{AllMoved}
+use Rattle.model.proofs.Moves.{all_moved}
+use Rattle.model.proofs.Rows.{fits_allowed}
 use Rattle.day.specs.Answer.{Answer, gives, refuses, code, on_given}
 use Rattle.day.specs.AnswerLaws.{gives_same, checked_gives, given_before, Only, only_given, only_checked, only_wider}
 use Rattle.day.specs.Sound.{sound}
 use Rattle.day.specs.declared.Limits.{Limits}
 use Rattle.counting.specs.Counting.{figures}
 use Rattle.planning.specs.Planning.{cost_words, choice_words, NoRowRefusal, planned, begins, open_words, Stays}
-use Rattle.planning.specs.Answers.{from_best, refuses_only, planned_only}
+use Rattle.planning.proofs.Answers.{from_best, refuses_only, planned_only}
 use Rattle.procedures.specs.Procedures.{left_over}
 use Rattle.procedures.specs.Complete.{first_fits, myopic_fits}
 use Rattle.comparing.specs.Comparing.{Comparison, comparison_or_zero, served_checks, against}

@@ -4,6 +4,8 @@
 // Proved: for every record and all lent memory each call answers what `compared` of specs/Baselines.antt says of its procedure's row, with
 // zeros beside a refusal; of the two areas only the words that planning needs may change. specs/Savings.antt: no saving is below zero.
 // Assumes nothing.
+#![tactic(auto)]
+
 ghost use Rattle.std.specs.Prelude.{◌≡◌, ◌^◌, ◌<◌, T, length, replicate};
 ghost use Rattle.day.specs.Answer.{judged};
 ghost use Rattle.day.specs.Sound.{day_limits, yard, sound};
@@ -18,7 +20,7 @@ use day::Day;
 use planning::Planned;
 
 // The procedures that planning is compared with.
-#[derive(Drop)]
+#[derive(Clone, Copy)]
 pub enum Procedure {
     FirstCome,
     Myopic,

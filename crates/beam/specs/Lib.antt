@@ -1,14 +1,11 @@
 pub mod LowerFigure
 pub mod Beam
-pub mod Listing
 pub mod Discards
 pub mod Paths
-pub mod Completing
 pub mod RowPlans
 pub mod Successors
 pub mod Result
 pub mod NothingCut
-pub mod Loop
 pub mod Shortcuts
 pub mod SlotCosts
 pub mod Words

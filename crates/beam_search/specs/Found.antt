@@ -1,7 +1,7 @@
 -- What the search is given, and what it gives: beam's row and its number of full slots.
 -- Assumes nothing.
 use Rattle.std.specs.Prelude.{◌≡◌, List, ℕ, ◌+◌, ◌≤◌, ◌<◌, length, take}
-use Rattle.std.proofs.Common.{sym, ap, ◌∙◌, arith}
+use Rattle.std.proofs.Common.{◌∙◌, arith}
 use Rattle.std.proofs.Math.Option.{none, some}
 use Rattle.fold.specs.Fold.{sum}
 use Rattle.sets.specs.Rest.{full}
@@ -9,7 +9,7 @@ use Rattle.model.specs.Model.{cell}
 use Rattle.model.specs.Overbooked.{first_overbooked}
 use Rattle.optimum.specs.Workspace.{Kept}
 use Rattle.feasibility.specs.Bound.{Windows}
-use Rattle.feasibility.specs.RowOrNone.{none_spacious}
+use Rattle.feasibility.proofs.RowOrNone.{none_spacious}
 use Rattle.tables.specs.Filled.{Filled}
 use Rattle.beam.specs.Beam.{beam_row, full_slots}
 use Rattle.beam.specs.SlotCosts.{suppliers_of}

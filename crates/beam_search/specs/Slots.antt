@@ -5,11 +5,10 @@ use Rattle.std.proofs.Common.{sym, ap, ◌∙◌, subst, add-one, le_antisymm, a
 use mathlib.Core.List.Memᴰ
 use mathlib.Core.List.{List, [], ◌∷◌, Memᴰ}
 use Rattle.fold.specs.Fold.{bit, count, count_none, count_next}
-use Rattle.sets.specs.Rest.{full}
 use Rattle.model.specs.Model.{Yard}
 use Rattle.feasibility.specs.Bound.{Windows, Spacious}
 use Rattle.beam.specs.Beam.{Plan, remained, kept, full_slots}
-use Rattle.beam.specs.Result.{some-kept}
+use Rattle.beam.proofs.Result.{some-kept}
 use Rattle.candidates.specs.declared.Sizes.{Sizes}
 use Rattle.candidates.specs.Given.{Trains, yard_of}
 use Rattle.set_serving.specs.Serving.{Right, PlanAt}

@@ -10,9 +10,9 @@ use Rattle.fold.specs.Test.{is_false}
 use Rattle.sets.specs.Rest.{full}
 use Rattle.model.specs.Model.{Yard}
 use Rattle.feasibility.specs.Bound.{Windows, Spacious}
-use Rattle.feasibility.specs.RowExists.{row_exists}
+use Rattle.feasibility.proofs.RowExists.{row_exists}
 use Rattle.beam.specs.Beam.{rest, cost_so_far, revisits_so_far, slots_so_far, set_in, discarded, remained, kept}
-use Rattle.beam.specs.RowPlans.{start_kept}
+use Rattle.beam.proofs.RowPlans.{start_kept}
 use Rattle.beam.specs.Words.{word_of}
 use Rattle.beam.specs.HeldWords.{held_word, Holds}
 use Rattle.gathering.specs.Gathering.{Words}

@@ -3,6 +3,8 @@
 //
 // Proved: `beam_search` gives `beam_row` and `full_slots` of beam's Beam.antt, for every day of up to 36 trains, 4 tracks and 12 slots whose windows lie
 // in its slots and that overbooks no interval. Over slices. Assumes nothing.
+#![tactic(auto)]
+
 ghost use Rattle.std.specs.Prelude.{◌≡◌, ℕ, ◌+◌, ◌*◌, ◌≤◌, ◌<◌, length};
 ghost use Rattle.fold.specs.Fold.{bit};
 ghost use Rattle.set_serving.specs.Serving.{SearchTables};
@@ -13,7 +15,7 @@ ghost use Rattle.beam_search.specs.Found.{Sized, Searched};
 use candidates::Sizes;
 
 // The words of the first plan kept after the last slot, and the number of slots after which more plans remained than are kept.
-#[derive(Drop)]
+#[derive(Clone, Copy)]
 struct Found {
     plan: [u64; 16],
     full: usize,

@@ -4,6 +4,8 @@
 //
 // Proved: each call gives its set or fills the first words of the lent slice with the entries of specs/Entries.antt, `beam` and `staging`,
 // and leaves the words behind them as they were. Over slices, for up to 36 trains. Assumes nothing.
+#![tactic(auto)]
+
 ghost use Rattle.std.specs.Prelude.{◌≡◌, ℕ, ◌+◌, ◌≤◌, ◌<◌, length};
 ghost use Rattle.fold.specs.Fold.{sum};
 ghost use Rattle.sets.specs.Rest.{full};

@@ -12,7 +12,8 @@ use Rattle.sets.specs.Rest.{full}
 use Rattle.model.specs.Model.{cell}
 use Rattle.optimum.specs.Workspace.{at}
 use Rattle.staging.specs.Tables.{needing, from_outside}
-use Rattle.beam.specs.SlotCosts.{suppliers_of, outside_members, late-members}
+use Rattle.beam.specs.SlotCosts.{suppliers_of}
+use Rattle.beam.proofs.SlotCosts.{outside_members, late-members}
 use Rattle.set_costs.specs.Sets.{over_le}
 use Rattle.candidates.specs.declared.Sizes.{Sizes}
 use Rattle.candidates.specs.Given.{Tables}

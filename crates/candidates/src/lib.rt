@@ -2,6 +2,8 @@
 //
 // Proved: the price is that of equation (10); `with_set` gives the words of the plan with that set, and each stays within a bound that grows
 // with the slots (specs/Words.antt). Over slices, for up to 36 trains, 4 tracks and 12 slots. Assumes nothing.
+#![tactic(auto)]
+
 ghost use Rattle.std.specs.Prelude.{◌≡◌, ℕ, ◌+◌, ◌*◌, ◌≤◌, ◌<◌, length, get_or};
 ghost use Rattle.std.specs.Int.Count.{ones};
 ghost use Rattle.sets.specs.Subset.{Sub};
@@ -11,7 +13,7 @@ ghost use Rattle.candidates.specs.Words.{LowPlan, WithSet};
 
 // The numbers of a long day: its trains, as their count and as a set, tracks, slots, weights, the columns of its table of boxes; and the
 // greatest number of partial plans kept.
-#[derive(Drop)]
+#[derive(Clone, Copy)]
 pub struct Sizes {
     pub trains: usize,
     pub all: u64,
@@ -36,7 +38,7 @@ pub fn words_of(held: &[u64], k: usize) -> [u64; 16]
 }
 
 // What a set of trains adds to a plan: how many of them revisit, and the cost.
-#[derive(Drop)]
+#[derive(Clone, Copy)]
 pub struct Price {
     pub late: u64,
     pub cost: u64,

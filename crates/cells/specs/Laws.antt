@@ -11,9 +11,9 @@ use Rattle.std.proofs.Math.Dec.{T, ltb, eqb→eq}
 use Rattle.fold.specs.Test.{both_of}
 use Rattle.sets.specs.Subset.{Sub, subset, sub_le, sub_refl, sub_trans}
 use Rattle.optimum.specs.Workspace.{at}
-use Rattle.optimum.specs.Offers.{offer_yes, offer_lt}
+use Rattle.optimum.proofs.Offers.{offer_yes, offer_lt}
 use Rattle.optimum.specs.Tried.{Tried}
-use Rattle.optimum.specs.Direct.{last_whole}
+use Rattle.optimum.proofs.Direct.{last_whole}
 use Rattle.staging.specs.Tables.{Tables, keys_below, barred, no_cost, from_tables, late_set, slot_sum, set_key, set_key_from_tables, key_from_tables}
 use Rattle.cells.specs.Given.{Given, Rests, last_from}
 

@@ -4,6 +4,8 @@
 //
 // Proved: each cell is optimum's, of the test and the contribution that the tables give. What a slot costs is summed in 32 bits, the cells'
 // keys in 64. Over slices, for up to 12 trains and 8 slots. Assumes nothing.
+#![tactic(auto)]
+
 ghost use Rattle.std.specs.Prelude.{◌≡◌, true, ◌+◌, ◌^◌, ◌<◌, length};
 ghost use Rattle.optimum.specs.Offers.{offer};
 ghost use Rattle.optimum.specs.Workspace.{at};
@@ -11,7 +13,7 @@ ghost use Rattle.staging.specs.Tables.{tables_of, no_cost, late_set};
 ghost use Rattle.cells.specs.Given.{Given, Rests, cell_from, last_from};
 
 // A cell of the table: the least key, and the set that is served for it.
-#[derive(Drop)]
+#[derive(Clone, Copy)]
 pub struct Pick {
     pub value: u64,
     pub set: u16,

@@ -1,6 +1,8 @@
 // Comparing a row of slots with the planned cost (document 02, order 1): its four numbers and the saving, or refusal 14.
 //
 // Proved: `compare` says `against` of specs/Comparing.antt, with zeros beside a refusal. Assumes nothing.
+#![tactic(auto)]
+
 ghost use Rattle.std.specs.Prelude.{◌≤◌, ◌<◌, ◌^◌, T, length};
 ghost use Rattle.day.specs.Answer.{refusal};
 ghost use Rattle.day.specs.Sound.{day_limits, yard, sound};
@@ -11,7 +13,7 @@ use counting::Value;
 use day::{Day, Refusal, Verdict};
 
 // The four numbers of a procedure's row, and the saving, its cost less the planned cost; zeros with a refusal.
-#[derive(Drop)]
+#[derive(Clone, Copy)]
 pub struct Baseline {
     pub verdict: Verdict,
     pub value: Value,

@@ -3,6 +3,8 @@
 //
 // Proved: each function is its definition in Model.antt, over slices, a width and numbers, so that days of every size use it. Assumes
 // nothing.
+#![tactic(auto)]
+
 ghost use Rattle.std.specs.Prelude.{◌≡◌, ◌≤◌, ◌<◌, ◌*◌, length};
 ghost use Rattle.fold.specs.Fold.{sum};
 ghost use Rattle.model.specs.Model.{cell, late_supplier, revisiting, revisits, outside_boxes, splits, direct_boxes, direct_to, direct, weighed, row_outcome, slot_mask};
@@ -11,13 +13,13 @@ ghost use Rattle.counting.specs.Counting.{outcome_of, no_outcome};
 
 // The model's two counts and order 6's, a number type each. Outside this crate a count is opened by its own opener alone; only `weigh` opens
 // two, revisits and split moves. Direct moves are not weighed.
-#[derive(Drop)]
+#[derive(Clone, Copy)]
 pub struct Revisits(u64);
 
-#[derive(Drop)]
+#[derive(Clone, Copy)]
 pub struct Splits(u64);
 
-#[derive(Drop)]
+#[derive(Clone, Copy)]
 pub struct Direct(u64);
 
 impl Revisits {
@@ -44,7 +46,7 @@ impl Direct {
     }
 }
 
-#[derive(Drop)]
+#[derive(Clone, Copy)]
 pub struct Value {
     pub revisits: Revisits,
     pub splits: Splits,

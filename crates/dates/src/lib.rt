@@ -3,11 +3,13 @@
 // Proved: each function is its definition in specs/Dates.antt. specs/Rules.antt has the rule of leap years over all years;
 // specs/Following.antt: the next date has the next number and the next weekday; specs/Numbering.antt: there are 36,525 dates. Assumes
 // nothing.
+#![tactic(auto)]
+
 ghost use Rattle.std.specs.Prelude.{◌≡◌, ◌≤◌, ◌<◌, T};
 ghost use Rattle.dates.specs.Dates.{leap, month_days, year_days, is_date, same_date, days_before_year, days_before_month, weekday};
 
 // A date; months count from 1 for January.
-#[derive(Drop)]
+#[derive(Clone, Copy)]
 pub struct Date {
     pub year: u32,
     pub month: u32,
@@ -28,6 +30,7 @@ fn february_days(year: u32) -> u32
 }
 
 // The days of a month by its number, February by leap year; 0 where the number is no month's.
+#[tactic(auto, unfolding(crate::specs::Dates::month_days))]
 fn month_days(year: u32, month: u32) -> u32
     ensures { result ≡ month_days year month }
 {

@@ -8,7 +8,7 @@ use Rattle.fold.specs.Fold.{sum}
 use Rattle.fold.specs.Sums.{sum_bound}
 use Rattle.fold.specs.Counting.{count-bound}
 use Rattle.model.specs.Model.{Yard, received, revisiting, revisits, all_boxes, boxes_of, weighed, outcome, cost}
-use Rattle.model.specs.Moves.{direct_boxes_lem, splits_boxes}
+use Rattle.model.proofs.Moves.{direct_boxes_lem, splits_boxes}
 use Rattle.day.specs.Sound.{day_limits, sound}
 use Rattle.day.specs.SoundLaws.{Sound, sound_is}
 use Rattle.day.specs.declared.Limits.{Limits}

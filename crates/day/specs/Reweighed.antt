@@ -5,7 +5,8 @@
 use Rattle.std.specs.Prelude.{◌≡◌, ◌≤◌, T}
 use Rattle.std.proofs.Common.{arith}
 use Rattle.model.specs.Model.{Yard, boxes_of}
-use Rattle.model.specs.Fewest.{Outweighs, reweighed, greater_outweighs}
+use Rattle.model.specs.Fewest.{Outweighs, reweighed}
+use Rattle.model.proofs.Fewest.{greater_outweighs}
 use Rattle.day.specs.Sound.{day_limits, shaped, sound}
 use Rattle.day.specs.SoundLaws.{sound_is, sound_tests, tests_sound}
 use Rattle.day.specs.SoundDay.{head_within}

@@ -1,6 +1,8 @@
 // The day record with the limits of document 01 as data, and the refusals of documents 01 and 02.
 //
 // Proved: the limits and the ranges of a row's fields are those of specs/Sound.antt, which also says when a record is sound. Assumes nothing.
+#![tactic(auto)]
+
 ghost use Rattle.std.specs.Prelude.{◌≡◌, [], ◌∷◌, ◌≤◌, ◌<◌, length};
 ghost use Rattle.model.specs.Model.{cell, in_time};
 ghost use Rattle.model.specs.Cells.{InTable};
@@ -8,7 +10,7 @@ ghost use Rattle.day.specs.Sound.{day_limits, head_of, yard, zero_day, range, be
 
 // A day. Positions are counted from 0; A(i, j), the boxes that train i receives from train j, stands at i * 12 + j of `boxes`.
 // A train in no group has group 0. Unused positions hold 0.
-#[derive(Drop)]
+#[derive(Clone, Copy)]
 pub struct Day {
     pub trains: usize,
     pub tracks: u32,
@@ -23,7 +25,7 @@ pub struct Day {
 }
 
 // The row of the first section of a day file. With it a day of any size is four columns and a table of boxes.
-#[derive(Drop)]
+#[derive(Clone, Copy)]
 pub struct Head {
     pub trains: usize,
     pub tracks: u32,
@@ -33,7 +35,7 @@ pub struct Head {
 }
 
 // The greatest value of each field of a day file. Where `groups` is 0 the file has no fourth section.
-#[derive(Drop)]
+#[derive(Clone, Copy)]
 pub struct Limits {
     pub trains: usize,
     pub tracks: u32,
@@ -47,7 +49,7 @@ pub struct Limits {
 // The refusals 1 to 13 of document 01 and 14 to 24 of document 02, in their order, with what each carries: a line of the text, counted
 // from 1, or 0 where no text is read; the first and the last slot of an interval and the trains bound inside; a position or a slot,
 // counted from 1 (`WithoutSlot` of 0: each train has a slot, and the row is still not allowed); a group.
-#[derive(Drop)]
+#[derive(Clone, Copy)]
 pub enum Refusal {
     NamesLine(usize),
     RowForm(usize),
@@ -76,7 +78,7 @@ pub enum Refusal {
 }
 
 // What a call says beside the numbers or the day that it gives: accepted, or the refusal.
-#[derive(Drop)]
+#[derive(Clone, Copy)]
 pub enum Verdict {
     Accepted,
     Refused(Refusal),

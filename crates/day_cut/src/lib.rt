@@ -2,6 +2,8 @@
 // open slots.
 //
 // Proved: each function is the definition of rolling's Rolling.antt that its contract names. Assumes nothing.
+#![tactic(auto)]
+
 ghost use Rattle.std.specs.Prelude.{◌≡◌, ◌≤◌, ◌<◌, length};
 ghost use Rattle.fold.specs.Column.{column};
 ghost use Rattle.model.specs.Model.{slot_of};

@@ -1,6 +1,8 @@
 // The changes of a day that keeps moving (order 7 of document 02): where a number stands, a train left out, a train put in, boxes set.
 //
 // Proved: each function is the definition of rolling's Rolling.antt that its contract names. Assumes nothing.
+#![tactic(auto)]
+
 ghost use Rattle.std.specs.Prelude.{◌≡◌, ◌≤◌, ◌<◌, ◌-◌, suc, leb, length, get_or};
 ghost use Rattle.fold.specs.Fold.{lowest};
 ghost use Rattle.fold.specs.Column.{column, table, table_entry};

@@ -4,7 +4,7 @@ use Rattle.std.specs.Prelude.{◌≡◌, refl, List, ℕ, ◌+◌, ◌-◌, ◌�
 use Rattle.std.proofs.Math.Path.{sym, ap}
 use Rattle.std.proofs.Common.{◌∙◌}
 use native.Mathlib.Omega.{arith}
-use Rattle.model.specs.Model.{Yard, Outcome, outcome, cost, boxes_of}
+use Rattle.model.specs.Model.{Yard, Outcome, cost, boxes_of}
 use Rattle.day.specs.Answer.{Answer, gives, refuses, on_given}
 use Rattle.day.specs.Sound.{day_limits}
 use Rattle.day.specs.SoundLaws.{sound_is}
@@ -12,7 +12,8 @@ use Rattle.day.specs.Most.{most_cost, sound_boxes, sound-revisits, sound-splits,
 use Rattle.day.specs.declared.Limits.{Limits}
 use Rattle.dayfile.specs.Reading.{read_day}
 use Rattle.planning.specs.Planning.{cost_area, choice_area, planned}
-use Rattle.planning.specs.Answers.{FromBest, from_best, planned_boxes}
+use Rattle.planning.specs.Answers.{FromBest}
+use Rattle.planning.proofs.Answers.{from_best, planned_boxes}
 use Rattle.procedures.specs.Procedures.{first_come}
 use Rattle.comparing.specs.Comparing.{Comparison, against}
 use Rattle.baselines.specs.Baselines.{compared}

@@ -11,7 +11,8 @@ use Rattle.std.specs.Prelude.{◌≡◌, refl, List, ◌⊎◌, ℕ, ◌≤◌}
 use Rattle.std.proofs.Common.{sym, ap, ◌∙◌, subst, inl, inr, arith}
 use Rattle.std.proofs.Math.Option.{Option, none, some}
 use Rattle.model.specs.Model.{Yard, Outcome, outcome, boxes_of, Best, SomeRow, NoRow}
-use Rattle.model.specs.BestOf.{best_of, is_best, is_none_lem, none_is}
+use Rattle.model.specs.BestOf.{best_of}
+use Rattle.model.proofs.BestOf.{is_best, is_none_lem, none_is}
 use Rattle.model.specs.Overbooked.{Interval, first_overbooked}
 use Rattle.day.specs.Answer.{Answer, gives, refuses, on_given}
 use Rattle.day.specs.AnswerLaws.{Only}
@@ -21,7 +22,7 @@ use Rattle.dayfile.specs.Reading.{read_day}
 use Rattle.dayfile.specs.RoundTrip.{read_sound}
 use Rattle.dayfile.specs.Refused.{FileRefusal, Lined, read_lined}
 use Rattle.planning.specs.Planning.{cost_area, choice_area, no_row, NoRowRefusal, best_answer, planned}
-use Rattle.planning.specs.Answers.{none_answer, areas_suffice_lem, planned-begun, planned_only}
+use Rattle.planning.proofs.Answers.{none_answer, areas_suffice_lem, planned-begun, planned_only}
 use Rattle.day_figures.specs.Figures.{figures, plan_answer, day_answer}
 use Rattle.day_figures.specs.Laws.{day_read, all_moved, Moved, Small, figures-within}
 use Rattle.day_figures.specs.declared.Figures.{Figures}

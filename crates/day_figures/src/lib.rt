@@ -2,6 +2,8 @@
 //
 // Proved: `day_of` answers what `day_answer` of specs/Figures.antt says of any text, by the answers of reading, planning and comparing; each
 // day is planned once. Assumes nothing.
+#![tactic(auto)]
+
 ghost use Rattle.std.specs.Prelude.{◌≡◌, length};
 ghost use Rattle.day.specs.Answer.{gives};
 ghost use Rattle.day.specs.Sound.{day_limits, yard};
@@ -18,7 +20,7 @@ use planning::Planned;
 
 // The figures of a planned day, or of several, added up: revisits, split moves, direct moves, all boxes, and what planning saves against
 // first come.
-#[derive(Drop)]
+#[derive(Clone, Copy)]
 pub struct Figures {
     pub revisits: u64,
     pub splits: u64,
@@ -28,7 +30,7 @@ pub struct Figures {
 }
 
 // What a day comes to: its figures, or why it is refused.
-#[derive(Drop)]
+#[derive(Clone, Copy)]
 pub enum DayAnswer {
     Planned(Figures),
     Refused(Refusal),

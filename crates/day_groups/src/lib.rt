@@ -2,6 +2,8 @@
 //
 // Proved: each function answers and leaves what dayfile's Reading.antt says of the section at its place, for any limits and a column of
 // zeros. Each takes the good answer of a line apart, else hands the refusal up. Assumes nothing.
+#![tactic(auto)]
+
 ghost use Rattle.std.specs.Prelude.{◌≡◌, [], ◌∷◌, ◌≤◌, ◌+◌, length, take, drop, replicate};
 ghost use Rattle.dayfile.specs.Reading.{read_groups, group_section};
 ghost use Rattle.day_groups.specs.Groups.{GroupsTo};

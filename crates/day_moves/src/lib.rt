@@ -2,6 +2,8 @@
 //
 // Proved: each function answers and leaves what dayfile's Reading.antt says of the section at its place, for any limits. Each takes the
 // good answer of a line apart, else hands the refusal up. Assumes nothing.
+#![tactic(auto)]
+
 ghost use Rattle.std.specs.Prelude.{◌≡◌, [], ◌∷◌, ◌≤◌, ◌<◌, ◌+◌, ◌*◌, length, take, drop, set};
 ghost use Rattle.model.specs.Cells.{InTable};
 ghost use Rattle.dayfile.specs.Reading.{read_moves, move_section};
@@ -21,7 +23,7 @@ fn put_cell(table: &mut [u8], width: usize, i: usize, j: usize, x: u8)
 }
 
 // The place and the line after the last move, or the refusal.
-#[derive(Drop)]
+#[derive(Clone, Copy)]
 pub enum Moves {
     Next { at: usize, line: usize },
     Refused(Refusal),

@@ -2,6 +2,8 @@
 //
 // Proved: each function answers what dayfile's Reading.antt says of the line at its place. Each takes the good answer of the line reader
 // apart, asks the conditions of the row in their order, and else hands the refusal up. Assumes nothing.
+#![tactic(auto)]
+
 ghost use Rattle.std.specs.Prelude.{◌≡◌, ◌&&◌, ◌||◌, [], ◌∷◌, ◌≤◌, ltb, eqb, length, get_or, take, drop};
 ghost use Rattle.dayfile.specs.Reading.{head_checks, train_checks, move_checks, position, moves_end, read_names, read_row};
 ghost use Rattle.day_rows.specs.Steps.{ReadsRow, ReadsOrEnds, move_due, NamesTo, refusal_of};
@@ -199,7 +201,7 @@ pub fn refusal_of(found: Line, due: Refusal) -> Refusal
 }
 
 // The place after a section, or the refusal.
-#[derive(Drop)]
+#[derive(Clone, Copy)]
 pub enum Step {
     Next(usize),
     Refused(Refusal),

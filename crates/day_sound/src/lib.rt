@@ -2,6 +2,8 @@
 //
 // Proved: `is_sound` is the definition `sound` of day's Sound.antt for every record, sound or not. A record's parts are tested by functions
 // over slices, a width and limits, so that records of other sizes use them too. Assumes nothing.
+#![tactic(auto)]
+
 ghost use Rattle.std.specs.Prelude.{◌≡◌, [], ◌∷◌, ◌≤◌, ◌<◌, ◌*◌, length};
 ghost use Rattle.fold.specs.Fold.{each};
 ghost use Rattle.model.specs.Cells.{InTable};

@@ -2,6 +2,8 @@
 //
 // Proved: each function puts what dayfile's Writing.antt says, from a head, columns and a table of boxes of any width, so that days of
 // every size are written by the same code. Assumes nothing.
+#![tactic(auto)]
+
 ghost use Rattle.std.specs.Prelude.{[], ◌∷◌, ◌+◌, ◌≤◌, ◌<◌, ◌*◌, length};
 ghost use Rattle.decimal.specs.Place.{Put};
 ghost use Rattle.dayfile.specs.Writing.{day_text};

@@ -2,6 +2,8 @@
 //
 // Proved: each function answers and leaves what dayfile's Reading.antt says of the section at its place, for any limits. Each takes the
 // good answer of a line apart, else hands the refusal up. Assumes nothing.
+#![tactic(auto)]
+
 ghost use Rattle.std.specs.Prelude.{◌≤◌, ◌+◌, length, drop};
 ghost use Rattle.dayfile.specs.Reading.{read_trains, head_section, train_section};
 ghost use Rattle.day_rows.specs.Steps.{ReadsRow};

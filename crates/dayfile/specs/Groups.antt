@@ -67,18 +67,21 @@ module _ (l : Limits) (numbers : List ℕ) where
   member_of taken before r rows f = record { fields = f.0; limits = f.1.0; train = (row_tests taken before r f.1.1.0).0 }
 
   fine_member : (rows : List (List ℕ)) (taken before : List ℕ) → FineGroups l numbers taken before rows → (r : List ℕ) → In r rows → Member l numbers r
+  fine_member [] taken before f r x'' = elim x'' [ ]
   fine_member (s ∷ rows) taken before f r (inl e) = subst (λ (x : List ℕ). Member l numbers x) (sym e) (member_of taken before s rows f)
   fine_member (s ∷ rows) taken before f r (inr m) = fine_member rows (field2 s ∷ taken) s f.2 r m
 
   -- ---- each train is in one row
 
   fine_free : (rows : List (List ℕ)) (taken before : List ℕ) → FineGroups l numbers taken before rows → (r : List ℕ) → In r rows → T (is_listed taken (field2 r)) → ⊥
+  fine_free [] taken before f r x3 t = elim x3 [ ]
   fine_free (s ∷ rows) taken before f r (inl e) t =
       (row_tests taken before s f.1.1.0).1 (subst (λ (x : List ℕ). T (is_listed taken (field2 x))) e t)
   fine_free (s ∷ rows) taken before f r (inr m) t = fine_free rows (field2 s ∷ taken) s f.2 r m (more-listed (field2 s) taken (field2 r) (inr t))
 
   fine_once : (rows : List (List ℕ)) (taken before : List ℕ) → FineGroups l numbers taken before rows → (r s : List ℕ) → In r rows → In s rows
       → field2 r ≡ field2 s → r ≡ s
+  fine_once [] taken before f r s x4 _ q = elim x4 [ ]
   fine_once (x ∷ rows) taken before f r s (inl d) (inl e) q = d ∙ sym e
   fine_once (x ∷ rows) taken before f r s (inl d) (inr n) q =
       absurd (fine_free rows (field2 x ∷ taken) x f.2 s n (more-listed (field2 x) taken (field2 s) (inl (ap field2 (sym d) ∙ q))))

@@ -3,7 +3,7 @@
 use Rattle.std.proofs.Math.Path.{◌≡◌, refl}
 use Rattle.std.proofs.Common.{sym, ap, ◌∙◌, arith, length-append}
 use Rattle.std.specs.Prelude.{true, false, ◌&&◌, ltb, length}
-use Rattle.std.proofs.Math.Bool.{and_false}
+use Rattle.std.proofs.Math.Bool.{and-false}
 use mathlib.Core.List.{List, [], ◌∷◌, ◌++◌}
 use Prim.Native.Nat.{ℕ, zero, suc, ◌≤◌}
 use Rattle.day.specs.Answer.{Answer, gives, refuses, Check, checked}
@@ -82,7 +82,7 @@ row-value (suc n) s r q e k = taken {p = field 32 s} e λ v x g h. taken {p = va
 value_goes_on : (l : Limits) (s : List ℕ) (v : ℕ) (r : List ℕ) → value s ≡ got v r → (is_end s ≡ false) × (moves_end l s ≡ false)
 unfolding value moves_end
 value_goes_on l [] v r e = absurd (no_fail e)
-value_goes_on l (c ∷ s) v r e = (refl, ap (λ b. ltb 0 l.groups && b) (digit_first (c ∷ s) v r e) ∙ and_false (ltb 0 l.groups))
+value_goes_on l (c ∷ s) v r e = (refl, ap (λ b. ltb 0 l.groups && b) (digit_first (c ∷ s) v r e) ∙ and-false (ltb 0 l.groups))
 
 pub row_goes_on : (l : Limits) (k line : ℕ) (checks : List ℕ → List Check) (s : List ℕ) (x : RowRest) → read_row k line checks s ≡ gives x
     → (is_end s ≡ false) × (moves_end l s ≡ false)

@@ -67,6 +67,7 @@ module _ (l : Limits) (numbers : List ℕ) where
   good_of before r moves f = record { fields = f.0; limits = f.1.0; trains = f.1.1.0 }
 
   fine_good : (moves : List (List ℕ)) (before : List ℕ) → FineMoves l numbers before moves → (r : List ℕ) → In r moves → Good l numbers r
+  fine_good [] before f r x'' = elim x'' [ ]
   fine_good (s ∷ moves) before f r (inl e) = subst (λ (x : List ℕ). Good l numbers x) (sym e) (good_of before s moves f)
   fine_good (s ∷ moves) before f r (inr m) = fine_good moves s f.2 r m
 

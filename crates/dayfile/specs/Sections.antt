@@ -4,7 +4,7 @@
 use Rattle.std.proofs.Math.Path.{◌≡◌, refl, ap}
 use Rattle.std.proofs.Common.{sym, ◌∙◌, le_trans, arith, length-append, lt-ltb}
 use Rattle.std.specs.Prelude.{Bool, true, false, cond, not}
-use Rattle.std.proofs.Math.Bool.{or_true}
+use Rattle.std.proofs.Math.Bool.{or-true}
 use mathlib.Core.List.{List, [], ◌∷◌, ◌++◌, append_assoc}
 use Prim.Native.Nat.{ℕ, zero, suc, ◌+◌, ◌≤◌}
 use Rattle.std.proofs.Math.Dec.{T}
@@ -195,7 +195,7 @@ module _ (l : Limits) (numbers : List ℕ) where
   groups_next [] taken before f = refl
   groups_next (r ∷ rows) taken before f =
       let (a, b) = some_group l r f.0 f.1.0 in
-      rw (lt-ltb 0 l.groups (omega arith), names_written group_names (rows_text (r ∷ rows)), or_true (is_end (group_names ++ rows_text (r ∷ rows))))
+      rw (lt-ltb 0 l.groups (omega arith), names_written group_names (rows_text (r ∷ rows)), or-true (is_end (group_names ++ rows_text (r ∷ rows))))
 
   -- what is read after its names line
   abbrev rows_after : ℕ → List ℕ → Answer Rows

@@ -24,6 +24,7 @@ In r [] = ⊥
 In r (s ∷ rows) = (r ≡ s) ⊎ In r rows
 
 in_front : (r : List ℕ) (xs ys : List (List ℕ)) → In r xs → In r (xs ++ ys)
+in_front r [] ys x' = elim x' [ ]
 in_front r (x ∷ xs) ys (inl e) = inl e
 in_front r (x ∷ xs) ys (inr m) = inr (in_front r xs ys m)
 
@@ -78,11 +79,13 @@ module _ (order : List ℕ → ℕ) where
         rise_append (joined k f) (f k) (h 0) (h k) (h (suc k)) (from_first k) (up k) (rise_joined k (λ i l. e i (omega arith))) (e k (le_refl (suc k)))
 
   pub rise_from : (rows : List (List ℕ)) (a b : ℕ) (r : List ℕ) → Rise order a b rows → In r rows → a ≤ order r
+  rise_from [] a b r _ x3 = elim x3 [ ]
   rise_from (x ∷ rows) a b r (after, below, rest) (inl e) = rw e after
   rise_from (x ∷ rows) a b r (after, below, rest) (inr m) = omega (arith, rise_from rows (suc (order x)) b r rest m)
 
   -- each place of the order is one row's
   pub rise_one : (rows : List (List ℕ)) (a b : ℕ) (r s : List ℕ) → Rise order a b rows → In r rows → In s rows → order r ≡ order s → r ≡ s
+  rise_one [] a b r s _ x5 _ q = elim x5 [ ]
   rise_one (x ∷ rows) a b r s (after, below, rest) (inl d) (inl e) q = d ∙ sym e
   rise_one (x ∷ rows) a b r s (after, below, rest) (inl d) (inr n) q = absurd (omega (arith, ap order d, rise_from rows (suc (order x)) b s rest n))
   rise_one (x ∷ rows) a b r s (after, below, rest) (inr m) (inl e) q = absurd (omega (arith, ap order e, rise_from rows (suc (order x)) b r rest m))

@@ -1,5 +1,6 @@
 // The day file of documents 01 and 02: what a text reads to and what a day is written as, in specs/. The names lines are here, for the
 // crates that read and write, and the greatest size, for their buffers.
+#![tactic(auto)]
 
 // The greatest size of a day file (specs/Size.antt).
 pub const DAY_BYTES: usize = 2437;

@@ -3,6 +3,8 @@
 // Proved: for every text `read_day` answers what `read_day` of dayfile's Reading.antt says, beside the day or zeros. It is `read_file` at
 // the limits of a day; `read_file` reads into lent columns, for any limits. Each step takes the good answer apart, else hands the refusal
 // up. Assumes nothing.
+#![tactic(auto)]
+
 ghost use Rattle.std.specs.Prelude.{◌≡◌, ◌≤◌, ◌*◌, length, take, drop, replicate};
 ghost use Rattle.day.specs.Answer.{judged};
 ghost use Rattle.day.specs.Sound.{day_limits, yard};
@@ -16,14 +18,14 @@ use day_rows::Step;
 use lines::Line;
 
 // What reading answers: the day, or a refusal 1 to 7 or 15 beside a record of zeros.
-#[derive(Drop)]
+#[derive(Clone, Copy)]
 pub struct Reading {
     pub verdict: Verdict,
     pub day: Day,
 }
 
 // The head of an accepted text, or its refusal 1 to 7 or 15.
-#[derive(Drop)]
+#[derive(Clone, Copy)]
 pub enum FileRead {
     Accepted(Head),
     Refused(Refusal),

@@ -3,6 +3,8 @@
 //
 // Proved: for every record and every output `write_day` answers and leaves what `day_writes` and `day_leaves` of dayfile's Calls.antt say. The
 // text is put by `day_text`, over columns and a table of any width. Assumes nothing.
+#![tactic(auto)]
+
 ghost use Rattle.std.specs.Prelude.{◌≡◌, ◌≤◌, T, length};
 ghost use Rattle.day.specs.Sound.{day_limits, yard, sound};
 ghost use Rattle.decimal.specs.Place.{Put};

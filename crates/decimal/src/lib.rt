@@ -2,12 +2,14 @@
 //
 // Proved: `read_value` answers what `value` of specs/Decimal.antt reads there; `put_value` stores `digits` of the value and nothing
 // else. Assumes nothing.
+#![tactic(auto)]
+
 ghost use Rattle.std.specs.Prelude.{◌≡◌, ◌+◌, ◌-◌, ◌≤◌, length, drop};
 ghost use Rattle.decimal.specs.Decimal.{is_digit, value, digits};
 ghost use Rattle.decimal.specs.Place.{Answers, Put};
 
 // A value that was read and the place after it, or that none is there.
-#[derive(Drop)]
+#[derive(Clone, Copy)]
 pub enum Field {
     Is { value: u32, next: usize },
     Bad,

@@ -9,12 +9,6 @@ use Rattle.fold.specs.Fold.{bit, count_next}
 use Rattle.fold.specs.Counting.{le_or_lt}
 use Rattle.model.specs.Model.{Yard, first_slot, last_slot, bound, bound_inside, exceeds, overbooked}
 
--- one train more
-pub bound-next : (k : ℕ) (first last : List ℕ) (a b : ℕ)
-    → bound (k + 1) first last a b ≡ bound k first last a b + bit (leb a (get_or first k 0) && leb (get_or last k 0) b)
-unfolding bound
-bound-next k first last a b = count_next k λ i. leb a (get_or first i 0) && leb (get_or last i 0) b
-
 -- train i is bound inside a..b
 abbrev pub is_bound : Yard → ℕ → ℕ → ℕ → Bool
 is_bound y a b i = leb a (first_slot y i) && leb (last_slot y i) b
@@ -31,19 +25,3 @@ module _ (y : Yard) (a b : ℕ) where
   -- the tracks of the slots a..b
   abbrev pub places : ℕ
   places = y.tracks * (b - a + 1)
-
-  pub over_exceeds : T (overbooked y a b) → places < bound_inside y a b
-  unfolding overbooked exceeds
-  over_exceeds t = ltb→lt places (bound_inside y a b) (both_of (leb 1 a && leb a b && leb b y.slots) (exceeds y a b) t).1
-
-  pub exceeds_over : 1 ≤ a → a ≤ b → b ≤ y.slots → places < bound_inside y a b → T (overbooked y a b)
-  unfolding overbooked exceeds
-  exceeds_over from order upto more =
-      both (leb 1 a && leb a b && leb b y.slots) (exceeds y a b)
-      (both (leb 1 a && leb a b) (leb b y.slots) (both (leb 1 a) (leb a b) (le→leb 1 a from) (le→leb a b order)) (le→leb b y.slots upto))
-      (lt→ltb places (bound_inside y a b) more)
-
-  -- where no interval is overbooked each holds the trains bound inside
-  pub spacious_holds : Spacious y → 1 ≤ a → a ≤ b → b ≤ y.slots → bound_inside y a b ≤ places
-  spacious_holds spacious from order upto =
-      ⊎_elim (λ fits. fits) (λ more. absurd (spacious a b (exceeds_over from order upto more))) (le_or_lt (bound_inside y a b) places)

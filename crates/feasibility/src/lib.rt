@@ -2,12 +2,14 @@
 //
 // Proved: `first_overbooked` answers what `first_overbooked` of the model's Overbooked.antt names, with the number of trains bound
 // inside. Over slices of windows, for any number of trains, tracks and slots. Assumes nothing.
+#![tactic(auto)]
+
 ghost use Rattle.std.specs.Prelude.{◌≡◌, ◌+◌, ◌-◌, ◌*◌, ◌≤◌, length};
 ghost use Rattle.model.specs.Model.{bound};
 ghost use Rattle.feasibility.specs.Search.{Finds, windows_only};
 
 // The interval that refusal 9 names, with the trains bound inside, or that no interval is overbooked.
-#[derive(Drop)]
+#[derive(Clone, Copy)]
 pub enum Overbooked {
     Interval { first: u8, last: u8, trains: usize },
     Nowhere,

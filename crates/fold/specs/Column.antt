@@ -120,6 +120,9 @@ column_none = filled_none 0
 pub column_fill : {r : List ℕ} (w k : ℕ) (f : ℕ → ℕ) (v : ℕ) → r ≡ column w k f → k < w → v ≡ f k → set r k v ≡ column w (k + 1) f
 column_fill w k f v e l h = filled_fill 0 w f k v e l h
 
+pub column_next : (w k : ℕ) (f : ℕ → ℕ) (v : ℕ) → k < w → v ≡ f k → set (column w k f) k v ≡ column w (k + 1) f
+column_next w k f v l h = column_fill w k f v refl l h
+
 pub column_end : {r : List ℕ} (w k n : ℕ) (f : ℕ → ℕ) → r ≡ column w k f → k ≤ n → n ≤ k → r ≡ column w n f
 column_end w k n f = filled_end 0 w f k n
 

@@ -12,14 +12,18 @@ use Rattle.std.proofs.Math.ListN.{get_or}
 use Rattle.fold.specs.Test.{of_false}
 use Rattle.sets.specs.Subset.{Sub}
 use Rattle.model.specs.Model.{Yard}
-use Rattle.model.specs.Order.{key_cases}
-use Rattle.merging.specs.Streaming.{last_decides}
+use Rattle.model.proofs.Order.{key_cases}
+use Rattle.merging.proofs.Streaming.{last_decides}
 use Rattle.beam.specs.Beam.{Plan, rest, cost_so_far, comes_before, may_serve, remained, kept}
-use Rattle.beam.specs.Paths.{Path, set_le}
-use Rattle.beam.specs.Successors.{plans_order, kept_of, remained_path}
-use Rattle.beam.specs.Words.{word_of, OfTrains, of_trains_next}
-use Rattle.beam.specs.HeldWords.{held_word, Holds, held_before, held_before_lem}
-use Rattle.beam.specs.Gathering.{from, Gathered, And, at_place, gathered_none, gathered_skip, gathered_add, gathered_reject, gathered_kept}
+use Rattle.beam.specs.Paths.{Path}
+use Rattle.beam.proofs.Paths.{set_le}
+use Rattle.beam.proofs.Successors.{plans_order, kept_of, remained_path}
+use Rattle.beam.specs.Words.{word_of, OfTrains}
+use Rattle.beam.proofs.Words.{of_trains_next}
+use Rattle.beam.specs.HeldWords.{held_word, Holds, held_before}
+use Rattle.beam.proofs.HeldWords.{held_before_lem}
+use Rattle.beam.specs.Gathering.{from, Gathered, And}
+use Rattle.beam.proofs.Gathering.{at_place, gathered_none, gathered_skip, gathered_add, gathered_reject, gathered_kept}
 use Rattle.offering.specs.Offered.{Offered}
 use Rattle.gathering.specs.Kept.{next_path, gathered_ordered, gathered_few, gathered_path}
 use Rattle.gathering.specs.Joining.{offered_is}

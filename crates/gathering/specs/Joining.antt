@@ -11,11 +11,13 @@ use Rattle.std.proofs.Math.Seq.{take_all, length-take-le}
 use Rattle.fold.specs.Fold.{lowest_le}
 use Rattle.model.specs.Model.{Yard}
 use Rattle.merging.specs.Merging.{InOrder, add}
-use Rattle.merging.specs.Places.{Joined, place_of, place_of_key, joins_at, joins_not}
+use Rattle.merging.specs.Places.{Joined, place_of, place_of_key}
+use Rattle.merging.proofs.Places.{joins_at, joins_not}
 use Rattle.beam.specs.Beam.{Plan, rest, comes_before}
-use Rattle.beam.specs.Successors.{plans_order}
+use Rattle.beam.proofs.Successors.{plans_order}
 use Rattle.beam.specs.Words.{OfTrains}
-use Rattle.beam.specs.HeldWords.{held_word, Holds, held_before, Shifted, joined_holds, place_of_rest, place_of_plan}
+use Rattle.beam.specs.HeldWords.{held_word, Holds, held_before, Shifted}
+use Rattle.beam.proofs.HeldWords.{joined_holds, place_of_rest, place_of_plan}
 use Rattle.offering.specs.Put.{Put}
 use Rattle.held_plans.specs.Placed.{rest_place, plan_place}
 use Rattle.offering.specs.Offered.{Offered, stays, replaces, joins, pushes, drops}

@@ -5,12 +5,14 @@ use Rattle.std.specs.Prelude.{◌≡◌, Bool, ℕ, suc, ◌≤◌, T, length, t
 use Rattle.std.proofs.Common.{sym, ap, ◌∙◌, subst, arith, length-take}
 use mathlib.Core.List.{List, Memᴰ}
 use Rattle.model.specs.Model.{Yard}
-use Rattle.merging.specs.First.{take_of}
-use Rattle.merging.specs.Merging.{InOrder, merged, is_merged}
-use Rattle.merging.specs.Streaming.{Held, take_ordered, streamed_is}
+use Rattle.merging.proofs.First.{take_of}
+use Rattle.merging.specs.Merging.{InOrder, merged}
+use Rattle.merging.proofs.Merging.{is_merged}
+use Rattle.merging.specs.Streaming.{Held}
+use Rattle.merging.proofs.Streaming.{take_ordered, streamed_is}
 use Rattle.beam.specs.Beam.{Plan, rest, comes_before, may_serve, kept}
 use Rattle.beam.specs.Paths.{Path}
-use Rattle.beam.specs.Successors.{successor_of, plans_order, kept_of, remained_path}
+use Rattle.beam.proofs.Successors.{successor_of, plans_order, kept_of, remained_path}
 use Rattle.beam.specs.Gathering.{Gathered}
 
 module _ (y : Yard) (width t : ℕ) where

@@ -1,18 +1,17 @@
 -- The walk through the sets that the plan at place k can serve, in falling order (sets, FewOnes.antt): what is done where it begins, at its next
 -- set, and at its end.
 -- Assumes nothing.
-use Rattle.std.specs.Prelude.{◌≡◌, Bool, ◌⊎◌, List, ℕ, suc, ◌≤◌, ◌<◌, T, leb}
-use Rattle.std.proofs.Common.{sym, ◌∙◌, subst, inl, inr, ⊎_elim, eq-or-lt_of_le, eq-zero-or-pos, le_of_suc-le-suc, arith, eqb→eq, leb→le}
+use Rattle.std.specs.Prelude.{◌≡◌, Bool, List, ℕ, suc, ◌≤◌, ◌<◌, T}
+use Rattle.std.proofs.Common.{sym, ◌∙◌, subst, inl, inr, ⊎_elim, eq-or-lt_of_le, eq-zero-or-pos, le_of_suc-le-suc, arith}
 use Rattle.std.specs.Int.Bits.{bit_and}
 use Rattle.std.specs.Int.Count.{ones}
-use Rattle.fold.specs.Test.{both_of}
 use Rattle.fold.specs.Counting.{le_or_lt}
-use Rattle.sets.specs.Subset.{Sub, subset, walk, sub_le, walk-next}
+use Rattle.sets.specs.Subset.{Sub, walk, sub_le, walk-next}
 use Rattle.sets.specs.Rest.{sub_meet}
 use Rattle.model.specs.Model.{Yard}
 use Rattle.staging.specs.Tables.{open_in}
 use Rattle.beam.specs.Beam.{rest, may_serve}
-use Rattle.beam.specs.Paths.{fits_is, may_serve_lem}
+use Rattle.beam.proofs.Paths.{fits_is, may_serve_lem}
 use Rattle.beam.specs.Gathering.{from, And}
 use Rattle.set_costs.specs.Sets.{Trimmed}
 use Rattle.gathering.specs.Gathering.{Gathering, Before, Passed, gathering_also}

@@ -1,6 +1,8 @@
 // The groups of a day file (order 4 of document 02), put into a lent output: the fourth section, which is left out where no train has one.
 //
 // Proved: `put_groups` puts what dayfile's Writing.antt says, from columns of any length. Assumes nothing.
+#![tactic(auto)]
+
 ghost use Rattle.std.specs.Prelude.{◌≡◌, ◌+◌, ◌≤◌, ◌<◌, length};
 ghost use Rattle.fold.specs.Listed.{joined};
 ghost use Rattle.decimal.specs.Place.{Put};

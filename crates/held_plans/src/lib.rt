@@ -2,6 +2,8 @@
 // words, and their places found (document 02, order 9).
 //
 // Proved: `move_up` moves just those words; the order is that of the words; each place is the lowest that passes. Assumes nothing.
+#![tactic(auto)]
+
 ghost use Rattle.std.specs.Prelude.{◌≡◌, ◌+◌, ◌*◌, ◌≤◌, ◌<◌, length, get_or};
 ghost use Rattle.model.specs.Model.{lower};
 ghost use Rattle.held_plans.specs.Moved.{MovedUp};

@@ -12,10 +12,13 @@ use Rattle.std.proofs.Math.Dec.{T, ltb, leb, eqb, ltb→lt, leb→le, eqb→eq}
 use Rattle.fold.specs.Test.{is_true, of_true, is_false, both, both_of, either_of, not_of, same_list, same_list_lem}
 use Rattle.fold.specs.Table.{all_pass, all_hold}
 use Rattle.model.specs.Model.{Yard, boxes_of, Outcome, outcome, cost, allowed, precedes, Best, NoRow, overbooked, FirstOverbooked, bound_inside}
-use Rattle.model.specs.Rows.{all_rows, allowed-listed}
-use Rattle.model.specs.BestOf.{best_of, is_best, is_none_lem}
+use Rattle.model.specs.Rows.{all_rows}
+use Rattle.model.proofs.Rows.{allowed-listed}
+use Rattle.model.specs.BestOf.{best_of}
+use Rattle.model.proofs.BestOf.{is_best, is_none_lem}
 use Rattle.model.specs.Fewest.{SumWeights, Fewest}
-use Rattle.model.specs.Overbooked.{Interval, first_overbooked, first_says, SaysFirst}
+use Rattle.model.specs.Overbooked.{Interval, first_overbooked, SaysFirst}
+use Rattle.model.proofs.Overbooked.{first_says}
 use Rattle.day.specs.Answer.{Answer, gives, refuses}
 use Rattle.day.specs.Sound.{day_limits, yard, sound}
 use Rattle.day.specs.declared.Day.{Day}

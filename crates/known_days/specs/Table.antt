@@ -256,13 +256,3 @@ table =
     -- (11) leaves out the boxes and the suppliers of the slot itself, and of equal trains the lowest position is taken
     ∷ compares myopic (day_of 3 2 3 1 3 (replicate 3 1) (replicate 3 3) (move 2 1 4 ∷ [])) (1 ∷ 1 ∷ 2 ∷ []) (saving (figures 0 0 4 0) 0)
     ∷ []
-
--- ---- every line holds
-
--- the one computation
-computed : T (all_pass passes table)
-unfolding all_pass passes same_outcome same_int same_comparison same_answer same_list is_row is_none is_interval no_interval sum_weights no_fewer is_fewest table sum count each Fold.some lowest mask late_supplier revisiting revisits split_boxes splits_to splits direct_boxes direct_to direct all_boxes weighed cost in_slots in_window load roomy fitting grouped apart kept parted allowed slot_mask lower slot_total by_sets precedes bound exceeds overbooked all_rows by_key pick best_of overbooked_from overbooked_first overbooked_last first_overbooked within head_ranges train_ranges shaped number_before train_sound unused position_sound group_sound pair_sound receiver_sound sound strays overfull valued planned in_time track_free waits suits earliest come_to waiting_supplier outside_boxes priority select fill_to served_to against compared
-computed = tt
-
-pub every_line : (l : Line) → Memᴰ l table → Holds l
-every_line = all_hold passes Holds line_holds table computed

@@ -6,7 +6,8 @@ use Rattle.std.proofs.Math.Option.{some}
 use Rattle.std.proofs.Common.{eqb→eq}
 use Rattle.fold.specs.Test.{both_of}
 use Rattle.model.specs.Model.{Outcome, outcome, Best}
-use Rattle.model.specs.BestOf.{best_of, is_best}
+use Rattle.model.specs.BestOf.{best_of}
+use Rattle.model.proofs.BestOf.{is_best}
 use Rattle.day.specs.Answer.{Answer}
 use Rattle.day.specs.Sound.{Range, within}
 use Rattle.known_days.specs.Lines.{same_outcome, same_outcome_lem, same_answer, same_answer_lem, is_row, is_row_lem}

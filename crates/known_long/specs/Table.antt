@@ -3,7 +3,7 @@
 -- What a line says is `Holds` of Lines.antt. Rows, full slots and lower figures come from a program that was written from the papers and has
 -- not seen these definitions.
 -- Assumes nothing.
-use Rattle.std.specs.Prelude.{true, false, ℕ, T, replicate}
+use Rattle.std.specs.Prelude.{true, false, T, replicate}
 use mathlib.Core.List.{List, [], ◌∷◌, Memᴰ}
 use Rattle.std.specs.Int.Count.{ones}
 use Rattle.fold.specs.Test.{same_list}
@@ -89,13 +89,3 @@ table =
     ∷ in_limits (move_ranges long_limits) (1 ∷ 2 ∷ 255 ∷ []) true
     ∷ in_limits (move_ranges long_limits) (1 ∷ 2 ∷ 256 ∷ []) false
     ∷ []
-
--- ---- every line holds
-
--- the one computation
-computed : T (all_pass passes table)
-unfolding all_pass passes same_outcome same_answer same_test same_long same_list is_row table sum count each Fold.some lowest listed has mask late_supplier revisiting revisits split_boxes splits_to splits direct_boxes direct_to direct weighed cost in_slots in_window load roomy fitting grouped apart kept allowed slot_mask lower slot_total by_sets precedes bound exceeds overbooked all_rows by_key pick best_of overbooked_from overbooked_first overbooked_last first_overbooked within head_ranges train_ranges move_ranges shaped number_before train_sound unused position_sound group_sound pair_sound receiver_sound sound in_time open_in needing from_outside matched without insert add merged rest cost_so_far revisits_so_far slots_so_far set_in slot_in row_of earlier comes_before remainder discarded fits_slot may_serve passing extensions successors remained Beam.kept full_slots beam_row largest surely_revisits surely_split lower_figure long_planned ones
-computed = tt
-
-pub every_line : (l : Line) → Memᴰ l table → Holds l
-every_line = all_hold passes Holds line_holds table computed

@@ -1,1 +1,2 @@
 // Long days with known plans, as one proved table, in specs/. No code.
+#![tactic(auto)]

@@ -102,13 +102,3 @@ table =
     ∷ answers (standing paper_wide 2 (2 ∷ 3 ∷ 1 ∷ 3 ∷ [])) two_closed_calls
     ∷ answers (standing paper_wide 3 (3 ∷ 1 ∷ 2 ∷ 1 ∷ [])) all_closed_calls
     ∷ []
-
--- ---- every line holds
-
--- the one computation
-computed : T (all_pass passes table)
-unfolding all_pass passes all_answer same_state same_head same_columns same_answer same_list table padded Fold.some sum count each lowest mask listed filled Column.table table_entry late_supplier revisiting revisits split_boxes splits_to splits weighed cost in_slots in_time in_window load roomy fitting grouped apart kept allowed slot_mask lower slot_total by_sets precedes bound exceeds overbooked all_rows by_key pick best_of overbooked_from overbooked_first overbooked_last first_overbooked within head_ranges train_ranges shaped number_before train_sound unused position_sound group_sound pair_sound receiver_sound sound place_of is_listed source_without source_with cut_first cut_last state_sound state_after begun
-computed = tt
-
-pub every_line : (l : Line) → Memᴰ l table → Holds l
-every_line = all_hold passes Holds line_holds table computed

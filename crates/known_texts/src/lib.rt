@@ -1,1 +1,2 @@
 // Sample texts of day files with what each reads to, as one proved table, in specs/. No code.
+#![tactic(auto)]

@@ -13,8 +13,9 @@ use Rattle.dates.specs.declared.Date.{Date}
 use Rattle.opening_hours.specs.declared.Calendar.{Calendar}
 use Rattle.opening_hours.specs.declared.Window.{Window}
 use Rattle.opening_hours.specs.Calendar.{used_slots, date_valid, slots_on, slots_or_zero, window, window_of, window_or_zero}
-use Rattle.opening_hours.specs.Laws.{used_at-most}
-use Rattle.opening_hours.specs.Promised.{InStay, valid_date, date_valid_lem, slots_taken, slots_refused, window_valid, window-within, window_holds, holds_window, window_refused}
+use Rattle.opening_hours.proofs.Laws.{used_at-most}
+use Rattle.opening_hours.specs.Promised.{InStay}
+use Rattle.opening_hours.proofs.Promised.{valid_date, date_valid_lem, slots_taken, slots_refused, window_valid, window-within, window_holds, holds_window, window_refused}
 use Rattle.lent_calendar.specs.LentCalendar.{date_of, calendar_of, slots_lent, window_lent}
 use Rattle.lent_calendar.specs.Laws.{slots_lent_lem, window_lent_lem, short_hours}
 

@@ -3,6 +3,8 @@
 //
 // Proved: for every lent calendar `tell_slots` and `tell_window` return and leave what specs/LentCalendar.antt says; specs/Laws.antt has the
 // header's words for it. Assumes nothing.
+#![tactic(auto)]
+
 ghost use Rattle.std.specs.Prelude.{◌≡◌, ◌+◌, ◌*◌, ◌≤◌, ◌<◌, length};
 ghost use Rattle.day.specs.Answer.{code};
 ghost use Rattle.opening_hours.specs.Calendar.{slots_or_zero, window_or_zero};

@@ -1,6 +1,8 @@
 // The lines of a file: one reader for names lines, rows of values and the end of the text.
 //
 // Proved: `read_line` answers what `found` of specs/Reader.antt finds at the place. Assumes nothing.
+#![tactic(auto)]
+
 ghost use Rattle.std.specs.Prelude.{◌≡◌, ◌≤◌, length, drop};
 ghost use Rattle.decimal.specs.Place.{Answers as Read};
 ghost use Rattle.lines.specs.Lines.{names, field, row};
@@ -11,7 +13,7 @@ use decimal::Field;
 
 // What the caller is due to find: a names line, a row of three or of five values, or where rows may end, a row of three or the end, the
 // same or a names line, a row of two or the end.
-#[derive(Drop)]
+#[derive(Clone, Copy)]
 pub enum Due {
     NamesLine,
     RowOfThree,
@@ -22,7 +24,7 @@ pub enum Due {
 }
 
 // What was found: the kind of the line, its fields and the place after it, or the refusal with its line.
-#[derive(Drop)]
+#[derive(Clone, Copy)]
 pub enum Line {
     Names {
         next: usize,

@@ -12,12 +12,12 @@ use Rattle.day.specs.Sound.{sound}
 use Rattle.day.specs.declared.Refusal.{Refusal}
 use Rattle.dayfile.specs.Reading.{read_day}
 use Rattle.planning.specs.Planning.{no_row, best_answer, placed}
-use Rattle.planning.specs.Answers.{none_answer}
+use Rattle.planning.proofs.Answers.{none_answer}
 use Rattle.refusal_text.specs.RefusalText.{refusal_text}
 use Rattle.answering.specs.Answering.{day_reply, found_reply}
 use Rattle.long_day.specs.LongDay.{long_limits}
 use Rattle.long_planning.specs.LongPlanning.{LongOutcome, found_answer, long_planned, long_row_after}
-use Rattle.long_planning.specs.Promised.{found-allowed, long_planned_lem, long_row_lem}
+use Rattle.long_planning.proofs.Promised.{found-allowed, long_planned_lem, long_row_lem}
 use Rattle.long_answering.specs.LongAnswering.{long_width, long_row, long_answer_text}
 
 -- ---- a sound long day

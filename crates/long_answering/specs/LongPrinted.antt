@@ -12,7 +12,8 @@ use Rattle.std.proofs.Math.Path.{refl}
 use Rattle.std.proofs.Common.{sym, ap, ◌∙◌, subst, arith}
 use Rattle.std.proofs.Math.Option.{Option, none, some}
 use Rattle.model.specs.Model.{Yard, outcome, cost, allowed, Best, SomeRow, NoRow, FirstOverbooked, bound_inside}
-use Rattle.model.specs.Overbooked.{SaysFirst, first_says}
+use Rattle.model.specs.Overbooked.{SaysFirst}
+use Rattle.model.proofs.Overbooked.{first_says}
 use Rattle.day.specs.Answer.{Answer, gives, refuses}
 use Rattle.day.specs.AnswerLaws.{Only, gives_same}
 use Rattle.day.specs.Sound.{sound}
@@ -26,7 +27,7 @@ use Rattle.answering.specs.Answering.{reply_by, day_reply, found_reply}
 use Rattle.beam.specs.Beam.{full_slots}
 use Rattle.beam.specs.LowerFigure.{lower_figure}
 use Rattle.long_day.specs.LongDay.{long_limits}
-use Rattle.long_planning.specs.Promised.{found-allowed, found_nowhere, found-lower, found-best, found_none}
+use Rattle.long_planning.proofs.Promised.{found-allowed, found_nowhere, found-lower, found-best, found_none}
 use Rattle.long_answering.specs.LongAnswering.{long_width, long_row, long_answer_text}
 
 -- what holds of the row that is printed

@@ -3,6 +3,8 @@
 //
 // Proved: for every text and every output `answer_long_text` answers and leaves what `long_answer_text` of specs/LongAnswering.antt says, and
 // as many bytes of output as the greatest plan file of a long day has always suffice. Assumes nothing.
+#![tactic(auto)]
+
 ghost use Rattle.std.specs.Prelude.{◌≡◌, ◌≤◌, T, length};
 ghost use Rattle.day.specs.Sound.{sound};
 ghost use Rattle.decimal.specs.Place.{Put};

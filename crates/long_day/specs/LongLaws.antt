@@ -7,7 +7,8 @@ use Rattle.std.proofs.Common.{sym, ◌∙◌, ⊎_elim, arith, ext_get_or}
 use Rattle.std.proofs.lemmas.List.{length-replicate, get_or-replicate}
 use Rattle.fold.specs.Counting.{le_or_lt}
 use Rattle.model.specs.Model.{Yard, weighed, cost, fitting, allowed}
-use Rattle.model.specs.Groups.{NoGroups, without_groups}
+use Rattle.model.specs.Groups.{NoGroups}
+use Rattle.model.proofs.Groups.{without_groups}
 use Rattle.day.specs.Sound.{sound}
 use Rattle.day.specs.SoundLaws.{sound_is}
 use Rattle.day.specs.SoundDay.{sound_day}

@@ -3,6 +3,8 @@
 //
 // Proved: the limits are those of specs/LongDay.antt; `is_long_sound` is the definition `sound` of day's Sound.antt at these limits, for
 // every record, sound or not. It is day_sound's function over slices, with a column of zeros for the groups. Assumes nothing.
+#![tactic(auto)]
+
 ghost use Rattle.std.specs.Prelude.{◌≡◌};
 ghost use Rattle.day.specs.Sound.{zero_day, sound};
 ghost use Rattle.long_day.specs.LongDay.{long_limits, long_head, long_yard};
@@ -11,7 +13,7 @@ use day::{Head, Limits};
 
 // A long day. Positions are counted from 0; A(i, j), the boxes that train i receives from train j, stands at i * 36 + j of `boxes`.
 // Unused positions hold 0.
-#[derive(Drop)]
+#[derive(Clone, Copy)]
 pub struct LongDay {
     pub trains: usize,
     pub tracks: u32,

@@ -15,7 +15,8 @@ use Rattle.lines.specs.RowSize.{in_row, digits_size, row_bytes}
 use Rattle.planfile.specs.PlanText.{value_names, slot_names, slot_row, plan_lines, plan_text}
 use Rattle.planfile.specs.Size.{rows_length}
 use Rattle.long_day.specs.LongDay.{long_limits}
-use Rattle.long_file.specs.Full.{full_numbers, full_day, full-number, full-received, full-sound}
+use Rattle.long_file.specs.Full.{full_numbers, full_day}
+use Rattle.long_file.proofs.Full.{full-number, full-received, full-sound}
 use Rattle.long_planfile.specs.Size.{long_plan_bytes}
 
 -- four trains in each of the slots 4 to 12

@@ -16,7 +16,8 @@ use Rattle.fold.specs.Sums.{sum-add, sum_times, sum_le, sum_bound}
 use Rattle.fold.specs.Counting.{le_or_lt, bit_yes, count_zero, count_le, count_or}
 use Rattle.fold.specs.Listed.{listed}
 use Rattle.model.specs.Model.{Yard, slot_of, received, outcome, direct_boxes, direct_to, direct, load, fitting, allowed}
-use Rattle.model.specs.Rows.{Fitting, fitting_is}
+use Rattle.model.specs.Rows.{Fitting}
+use Rattle.model.proofs.Rows.{fitting_is}
 use Rattle.day.specs.Sound.{Range, range, sound}
 use Rattle.day.specs.SoundLaws.{Sound, sound_is}
 use Rattle.day.specs.Most.{sound-revisits, sound-splits, sound-cost}

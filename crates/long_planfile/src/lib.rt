@@ -4,6 +4,8 @@
 // Proved: for every record, every row and every output `write_long_plan` answers and leaves what `plan_writes` and `plan_leaves` of
 // planfile's PlanText.antt say at the limits of long days. The text has at most `long_plan_bytes` bytes (specs/Size.antt), and some plan's
 // has just as many (specs/Reached.antt). Assumes nothing.
+#![tactic(auto)]
+
 ghost use Rattle.std.specs.Prelude.{◌≡◌, length};
 ghost use Rattle.output.specs.Output.{answer};
 ghost use Rattle.planfile.specs.PlanText.{plan_writes, plan_leaves};

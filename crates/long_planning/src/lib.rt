@@ -3,6 +3,8 @@
 //
 // Proved: for every record, every width and every lent row `plan_long` answers what `long_planned` of specs/LongPlanning.antt says and leaves
 // the row as `long_row_after` says. specs/Promised.antt draws order 9's sentences from this. Assumes nothing.
+#![tactic(auto)]
+
 ghost use Rattle.std.specs.Prelude.{◌≡◌, length};
 ghost use Rattle.std.proofs.Math.Option.{none};
 ghost use Rattle.model.specs.Overbooked.{first_overbooked};
@@ -19,14 +21,14 @@ use long_day::LongDay;
 
 // The four numbers of a row that the search found, the number of slots after which more merged partial plans than the width remained, and
 // the lower figure.
-#[derive(Drop)]
+#[derive(Clone, Copy)]
 pub struct LongValue {
     pub value: Value,
     pub full: usize,
     pub lower: u64,
 }
 
-#[derive(Drop)]
+#[derive(Clone, Copy)]
 pub enum LongPlanned {
     Plan(LongValue),
     Refused(Refusal),

@@ -2,6 +2,8 @@
 //
 // Proved: for every text `read_long_day` answers what `read_day` of dayfile's Reading.antt says at the limits of long days, beside the day
 // or zeros. It is dayread's `read_file`; the column of groups that this fills stays zeros. Assumes nothing.
+#![tactic(auto)]
+
 ghost use Rattle.std.specs.Prelude.{◌≡◌};
 ghost use Rattle.day.specs.Answer.{judged};
 ghost use Rattle.dayfile.specs.Reading.{read_day};
@@ -13,7 +15,7 @@ use dayread::FileRead;
 use long_day::LongDay;
 
 // What reading answers: the day, or a refusal 1 to 7 beside a record of zeros.
-#[derive(Drop)]
+#[derive(Clone, Copy)]
 pub struct LongReading {
     pub verdict: Verdict,
     pub day: LongDay,

@@ -4,12 +4,13 @@
 use Rattle.std.specs.Prelude.{◌≡◌, refl, List, ℕ, ◌≤◌, T}
 use Rattle.std.proofs.Common.{sym, subst, ⊎_elim, arith}
 use Rattle.model.specs.Model.{Yard, Outcome, outcome, fitting}
-use Rattle.model.specs.Groups.{grouped_of, parted_of}
+use Rattle.model.proofs.Groups.{grouped_of, parted_of}
 use Rattle.day.specs.Answer.{Answer, gives, refuses}
 use Rattle.day.specs.AnswerLaws.{Only}
 use Rattle.day.specs.Sound.{sound}
 use Rattle.valuing.specs.Valuing.{valued}
-use Rattle.valuing.specs.Laws.{SlotRefusal, valued_only, valued-parted, valued-allowed, allowed-valued}
+use Rattle.valuing.specs.Laws.{SlotRefusal}
+use Rattle.valuing.proofs.Laws.{valued_only, valued-parted, valued-allowed, allowed-valued}
 use Rattle.long_day.specs.LongDay.{long_limits}
 use Rattle.long_day.specs.LongLaws.{long_no_groups, long_allowed}
 

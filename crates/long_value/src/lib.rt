@@ -3,6 +3,8 @@
 // Proved: for every record and every row `value_long_assignment` answers what `valued` of valuing's Valuing.antt says at the limits of
 // long days. It is valuing's `value_row`, with a column of zeros for the groups: a row then parts none, and 17 is never given
 // (specs/LongValued.antt). Assumes nothing.
+#![tactic(auto)]
+
 ghost use Rattle.std.specs.Prelude.{◌≡◌};
 ghost use Rattle.valuing.specs.Valuing.{answer, valued};
 ghost use Rattle.long_day.specs.LongDay.{long_limits, long_yard};

@@ -3,6 +3,8 @@
 //
 // Proved: for every record and every output `write_long_day` answers and leaves what `day_writes` and `day_leaves` of dayfile's Calls.antt
 // say at the limits of long days. The text is put by `day_text`, as that of a day is. Assumes nothing.
+#![tactic(auto)]
+
 ghost use Rattle.std.specs.Prelude.{◌≡◌, ◌≤◌, T, length};
 ghost use Rattle.day.specs.Sound.{sound};
 ghost use Rattle.decimal.specs.Place.{Put};

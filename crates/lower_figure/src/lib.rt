@@ -1,6 +1,8 @@
 // The lower figure of a long day (document 02, order 9): a cost that no allowed row is below (beam, LowerFigure.antt).
 //
 // Proved: `lower_figure` is that figure by equation. Over slices, for up to 36 trains and 4 tracks. Assumes nothing.
+#![tactic(auto)]
+
 ghost use Rattle.std.specs.Prelude.{◌≡◌, ◌+◌, ◌-◌, ◌*◌, ◌≤◌, ◌<◌, max, length};
 ghost use Rattle.fold.specs.Fold.{sum};
 ghost use Rattle.model.specs.Model.{cell};
@@ -31,7 +33,7 @@ fn surely_revisits(
 // ---- the boxes that are surely split
 
 // The greatest sums of at most one, two and three of a train's supplies.
-#[derive(Drop)]
+#[derive(Clone, Copy)]
 struct Largest {
     one: u64,
     two: u64,

@@ -9,6 +9,3 @@ pub record InTable (width : ℕ) (table : List ℕ) (i j : ℕ) : Type 0 where
   pub row : i < width
   pub column : j < width
   pub whole : width * width ≤ length table
-
-pub cell_index : {width : ℕ} {table : List ℕ} {i j : ℕ} → InTable width table i j → i * width + j < length table
-cell_index {width} {table} {i} {j} t = let h = digits_lt {q = i} {m = width} {r = j} {c = width} t.row t.column in omega arith

@@ -2,7 +2,7 @@
 -- Assumes nothing.
 use Rattle.std.specs.Prelude.{◌≡◌, refl, List, ℕ, ◌+◌, ◌-◌, ◌*◌, ◌≤◌, ◌<◌, length, get_or, set}
 use Rattle.std.proofs.Common.{ap, ◌∙◌, subst, le_antisymm, arith, length-set, get_or-set_other}
-use Rattle.optimum.specs.Workspace.{set_at}
+use Rattle.optimum.proofs.Workspace.{set_at}
 use Rattle.held_plans.specs.Moved.{MovedUp}
 
 -- ---- the first n words of x, at `start` and behind it

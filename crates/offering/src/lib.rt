@@ -1,12 +1,14 @@
 // One plan more is offered to those that the beam search holds in one array (document 02, order 9).
 //
 // Proved: `offer` does on the words what specs/Offered.antt says, of which beam's laws make the merged plans (crate `gathering`). Assumes nothing.
+#![tactic(auto)]
+
 ghost use Rattle.std.specs.Prelude.{◌≡◌, ◌+◌, ◌*◌, ◌≤◌, ◌<◌, length};
 ghost use Rattle.offering.specs.Put.{Written, Put};
 ghost use Rattle.offering.specs.Offered.{Offered};
 
 // How many plans are held, and whether one was dropped for want of room.
-#[derive(Drop)]
+#[derive(Clone, Copy)]
 pub struct Held {
     pub count: usize,
     pub dropped: bool,

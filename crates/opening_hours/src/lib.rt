@@ -2,6 +2,8 @@
 //
 // Proved: for every calendar, date and pair of minutes `train_window` answers `window_of` of specs/Calendar.antt and `slots_on` answers
 // `slots_on`, with zeros beside a refusal. specs/Promised.antt draws the order's sentences from this. Assumes nothing.
+#![tactic(auto)]
+
 ghost use Rattle.std.specs.Prelude.{◌≡◌, ◌≤◌, ◌<◌, T};
 ghost use Rattle.fold.specs.Fold.{each};
 ghost use Rattle.day.specs.Answer.{refusal, judged};
@@ -19,7 +21,7 @@ const MOST_CLOSED: usize = 32;
 const LONGEST_SLOT: u32 = 1440;
 
 // The minutes at which the yard opens and closes.
-#[derive(Drop)]
+#[derive(Clone, Copy)]
 pub struct Hours {
     pub opens: u32,
     pub closes: u32,
@@ -27,7 +29,7 @@ pub struct Hours {
 
 // A yard's calendar: the hours of each weekday, 0 for Monday to 6 for Sunday; the length of a slot in minutes; the closed dates, of which
 // the first `count` are looked at.
-#[derive(Drop)]
+#[derive(Clone, Copy)]
 pub struct Calendar {
     pub hours: [Hours; 7],
     pub length: u32,
@@ -36,21 +38,21 @@ pub struct Calendar {
 }
 
 // The number of slots that a date uses, 0 beside a refusal.
-#[derive(Drop)]
+#[derive(Clone, Copy)]
 pub struct SlotCount {
     pub verdict: Verdict,
     pub slots: u32,
 }
 
 // The first and the last slot in which a train may be served, counted from 1.
-#[derive(Drop)]
+#[derive(Clone, Copy)]
 pub struct Window {
     pub first: u32,
     pub last: u32,
 }
 
 // A train's window, 0 and 0 beside a refusal.
-#[derive(Drop)]
+#[derive(Clone, Copy)]
 pub struct Windowed {
     pub verdict: Verdict,
     pub window: Window,

@@ -7,17 +7,9 @@ use Rattle.std.proofs.Common.{sym, ap, ◌∙◌, arith, le_antisymm}
 use Rattle.fold.specs.Listed.{length-listed, listed_at}
 use Rattle.optimum.specs.Workspace.{at}
 use Rattle.sets.specs.Rest.{full}
-use Rattle.optimum.specs.Schedules.{Test, Contribution, value, ahead_ext, ahead_same}
-use Rattle.optimum.specs.Stages.{tab, follow, Cheapest, tab_cheapest, tab_lower}
-use Rattle.optimum.specs.Rows.{stage_set, worth, Row, BestRow, sets_of, row_of, row_schedule, row-value, same_sets, row-set, sets_row, schedule_row}
-
--- ---- there is one best row
-
-pub best_unique : {ok : Test} {w : Contribution} {n m : ℕ} {row other : List ℕ} → BestRow ok w n m row → BestRow ok w n m other → row ≡ other
-best_unique {w = w} {n} {m} {row} {other} a b =
-    let e : worth w n m row ≡ worth w n m other = le_antisymm (a.least other b.allowed) (b.least row a.allowed) in
-    same_sets a.allowed b.allowed
-    (ahead_same m (λ j. stage_set n row (suc j)) (λ j. stage_set n other (suc j)) (a.first other b.allowed (sym e)) (b.first row a.allowed e))
+use Rattle.optimum.specs.Schedules.{Test, Contribution, value}
+use Rattle.optimum.specs.Stages.{tab, follow, Cheapest}
+use Rattle.optimum.specs.Rows.{stage_set, worth, Row, BestRow, sets_of, row_of}
 
 module _ (ok : Test) (w : Contribution) (inf n m : ℕ) where
   -- of all positions: the value in the table, the schedule that the choices give, and its row
@@ -29,36 +21,3 @@ module _ (ok : Test) (w : Contribution) (inf n m : ℕ) where
 
   abbrev pub plan : List ℕ
   plan = row_of n followed
-
-  long : (row : List ℕ) → length (sets_of n m row) ≡ m
-  long row = length-listed m λ j. stage_set n row (suc j)
-
-  pub optimum_lower : (row : List ℕ) → Row ok n m row → optimum ≤ worth w n m row
-  optimum_lower row h = omega (arith, tab_lower ok w inf m 1 (full n) (sets_of n m row) (long row) (row_schedule h), row-value h w)
-
-  -- ---- the table has a value
-
-  module _ (some : optimum < inf) where
-    cheapest : Cheapest ok w inf m 1 (full n) optimum followed
-    cheapest = tab_cheapest ok w inf m 1 (full n) some
-
-    pub plan_row : Row ok n m plan
-    plan_row = schedule_row ok n followed cheapest.allowed m cheapest.long
-
-    pub plan_sets : sets_of n m plan ≡ followed
-    plan_sets = sets_row ok n followed cheapest.allowed m cheapest.long
-
-    pub plan_worth : worth w n m plan ≡ optimum
-    plan_worth = sym (row-value plan_row w) ∙ ap (value w 1 (full n)) plan_sets ∙ cheapest.valued
-
-    pub plan_best : BestRow ok w n m plan
-    plan_best =
-        record {
-          allowed = plan_row;
-          least = λ other h. omega (arith, plan_worth, optimum_lower other h);
-          first = λ other h e.
-              ahead_ext m (at followed) (at (sets_of n m other)) (λ j. stage_set n plan (suc j)) (λ j. stage_set n other (suc j))
-              (λ j l. sym (row-set ok n followed cheapest.allowed j (omega (arith, cheapest.long))))
-              (λ j l. listed_at m (λ j. stage_set n other (suc j)) 0 j l)
-              (cheapest.first (sets_of n m other) (long other) (row_schedule h) (row-value h w ∙ e ∙ plan_worth));
-        }

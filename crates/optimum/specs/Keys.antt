@@ -10,12 +10,3 @@ use Rattle.optimum.specs.Rows.{stage_set, remaining, worth}
 
 abbrev pub pack : ℕ → Contribution → Contribution → Contribution
 pack M f g t r s = f t r s * M + g t r s
-
-pub worth-pack : (M : ℕ) (f g : Contribution) (n m : ℕ) (row : List ℕ) → worth (pack M f g) n m row ≡ worth f n m row * M + worth g n m row
-unfolding worth
-worth-pack M f g n m row =
-    sum-add m (λ j. of f j * M) (of g)
-    ∙ ap (λ x. x + sum m (of g)) (sum_ext m (λ j. of f j * M) (λ j. M * of f j) (λ j l. mul_comm (of f j) M) ∙ sum_times m M (of f) ∙ mul_comm M (sum m (of f)))
-  where
-    of : Contribution → ℕ → ℕ
-    of w j = w (suc j) (remaining n row (suc j)) (stage_set n row (suc j))

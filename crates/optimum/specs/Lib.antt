@@ -3,10 +3,8 @@ pub mod Least
 pub mod Schedules
 pub mod Offers
 pub mod Stages
-pub mod Direct
 pub mod Tried
 pub mod Layers
-pub mod Agree
 pub mod Rows
 pub mod Best
 pub mod Chosen

@@ -2,6 +2,8 @@
 //
 // Proved: each `put_..` stores the text of its line and nothing else; `write_text` answers and leaves what specs/Output.antt says, for
 // every text and every output. Assumes nothing.
+#![tactic(auto)]
+
 ghost use Rattle.std.specs.Prelude.{◌≡◌, [], ◌∷◌, ◌+◌, ◌≤◌, length};
 ghost use Rattle.decimal.specs.Place.{Put};
 ghost use Rattle.lines.specs.Lines.{field_text, row_text};
@@ -10,7 +12,7 @@ ghost use Rattle.output.specs.Output.{answer, writes, leaves};
 use day::Refusal;
 
 // The count of bytes written, or the refusal.
-#[derive(Drop)]
+#[derive(Clone, Copy)]
 pub enum Wrote {
     Bytes(usize),
     Refused(Refusal),

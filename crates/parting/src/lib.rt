@@ -3,6 +3,8 @@
 // Proved: what lies up to the next empty line is the first day of the rest of the text, for every text and place; `has_at_most` compares the
 // number of days of specs/Parting.antt. specs/Laws.antt and Accepted.antt: the number of days, and that joined day files come back.
 // Assumes nothing.
+#![tactic(auto)]
+
 ghost use Rattle.std.specs.Prelude.{◌≡◌, ◌≤◌, leb, length};
 ghost use Rattle.parting.specs.Parting.{days};
 ghost use Rattle.parting.specs.Walk.{NextEmpty};

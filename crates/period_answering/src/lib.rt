@@ -2,6 +2,8 @@
 //
 // Proved: for every text and every output `answer_period` answers and leaves what `period_text` of specs/PeriodAnswering.antt says, and 512 bytes of
 // output always suffice. Assumes nothing.
+#![tactic(auto)]
+
 ghost use Rattle.std.specs.Prelude.{◌≡◌, ◌≤◌, length};
 ghost use Rattle.decimal.specs.Place.{Put};
 ghost use Rattle.output.specs.Output.{answer};

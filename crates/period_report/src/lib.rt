@@ -2,6 +2,8 @@
 //
 // Proved: `no_tally` is that of no days, `add_day` adds a day to one that has room, and `with_means` divides, as specs/Report.antt says.
 // Assumes nothing.
+#![tactic(auto)]
+
 ghost use Rattle.std.specs.Prelude.{◌≡◌, ◌+◌, ◌<◌, [], length, get_or, set};
 ghost use Rattle.day_figures.specs.Figures.{answer};
 ghost use Rattle.period_report.specs.Report.{counters, mean, tally_of, with_means};
@@ -12,20 +14,20 @@ use day_figures::{DayAnswer, Figures};
 
 // The figures so far: the days by the numbers of their answers, at 0 those planned and at k those refused under k; and the totals of those
 // planned.
-#[derive(Drop)]
+#[derive(Clone, Copy)]
 pub struct Tally {
     pub days: [u64; 27],
     pub totals: Figures,
 }
 
 // A mean over the planned days: quotient × planned days + remainder is the total.
-#[derive(Drop)]
+#[derive(Clone, Copy)]
 pub struct Mean {
     pub quotient: u64,
     pub remainder: u64,
 }
 
-#[derive(Drop)]
+#[derive(Clone, Copy)]
 pub struct Means {
     pub revisits: Mean,
     pub splits: Mean,
@@ -34,7 +36,7 @@ pub struct Means {
 }
 
 // The report: the tally of all days, and the means.
-#[derive(Drop)]
+#[derive(Clone, Copy)]
 pub struct Report {
     pub days: [u64; 27],
     pub totals: Figures,

@@ -4,7 +4,8 @@ use Rattle.std.specs.Prelude.{◌≡◌, Bool, true, false, List, ℕ, ◌-◌, 
 use Rattle.std.proofs.Math.Option.{some}
 use Rattle.std.proofs.Common.{arith}
 use Rattle.model.specs.Model.{Yard, NoRow}
-use Rattle.model.specs.BestOf.{best_of, best_is}
+use Rattle.model.specs.BestOf.{best_of}
+use Rattle.model.proofs.BestOf.{best_is}
 use Rattle.day.specs.Sound.{day_limits, sound}
 use Rattle.day.specs.SoundLaws.{sound_is}
 use Rattle.day.specs.Most.{cost-most}
@@ -13,7 +14,7 @@ use Rattle.optimum.specs.Chosen.{row_in, Leads}
 use Rattle.staging.specs.Tables.{servable, stage_key, no_cost}
 use Rattle.staging.specs.Reachable.{Reachable}
 use Rattle.staging.specs.KeyBySlot.{Few}
-use Rattle.staging.specs.Solution.{solution_leads, solution_best, solution_none}
+use Rattle.staging.proofs.Solution.{solution_leads, solution_best, solution_none}
 
 -- where a row is allowed: the best one is in the first n bytes of the row, which is otherwise unchanged; of the areas only the words of the sets are used
 pub record Placed (y : Yard) (size : ℕ) (cost₀ choice₀ row₀ cost choice row : List ℕ) : Type 0 where

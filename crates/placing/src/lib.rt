@@ -2,6 +2,8 @@
 //
 // Proved: where a row is allowed, `place_trains` puts the best one into the first bytes of the row; where none is, it leaves the row. Of the
 // two areas it changes only the words of the sets. Assumes nothing.
+#![tactic(auto)]
+
 ghost use Rattle.std.specs.Prelude.{◌≤◌, ◌*◌, ◌^◌, ◌≡◌, T, length};
 ghost use Rattle.day.specs.Sound.{day_limits, yard, sound};
 ghost use Rattle.optimum.specs.Layers.{Solved};

@@ -19,11 +19,13 @@ use Rattle.sets.specs.Rest.{full, has-full, rest-bit, sub-full}
 use Rattle.model.specs.Model.{Yard}
 use Rattle.optimum.specs.Workspace.{at}
 use Rattle.beam.specs.Beam.{Plan, rest, set_in, slot_in, row_of, kept, beam_row, first_row}
-use Rattle.beam.specs.Paths.{Path, set-slot, set_le, slot_le}
-use Rattle.beam.specs.Successors.{kept_of, remained_path}
+use Rattle.beam.specs.Paths.{Path}
+use Rattle.beam.proofs.Paths.{set-slot, set_le, slot_le}
+use Rattle.beam.proofs.Successors.{kept_of, remained_path}
 use Rattle.beam.specs.Words.{word_of}
 use Rattle.beam.specs.HeldWords.{held_word}
-use Rattle.beam.specs.Gathering.{from, at_place}
+use Rattle.beam.specs.Gathering.{from}
+use Rattle.beam.proofs.Gathering.{at_place}
 use Rattle.gathering.specs.Gathering.{Words}
 use Rattle.set_serving.specs.Serving.{PlanAt}
 

@@ -2,6 +2,8 @@
 //
 // Proved: the slots are those that the words give, which are the plan's (specs/Row.antt). Over slices, for up to 36 trains and 12 slots.
 // Assumes nothing.
+#![tactic(auto)]
+
 ghost use Rattle.std.specs.Prelude.{◌≡◌, ◌≤◌, ◌<◌, length};
 ghost use Rattle.tables.specs.Filled.{Filled};
 ghost use Rattle.plan_rows.specs.Row.{slot_at};

@@ -10,7 +10,7 @@ use Rattle.fold.specs.Fold.{sum, sum_none}
 use Rattle.fold.specs.Sums.{sum_bound, sum_cons}
 use Rattle.fold.specs.Listed.{listed}
 use Rattle.model.specs.Model.{Yard, weighed, outcome, allowed}
-use Rattle.model.specs.Rows.{allowed_is}
+use Rattle.model.proofs.Rows.{allowed_is}
 use Rattle.day.specs.Sound.{day_limits, Range, range}
 use Rattle.day.specs.SoundLaws.{Sound, Within}
 use Rattle.day.specs.Most.{most_boxes, most_cost, sound-revisits, sound-splits, sound-direct, sound-cost}

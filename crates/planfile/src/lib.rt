@@ -4,6 +4,8 @@
 // Proved: for every record, every row and every output `write_plan` answers and leaves what `plan_writes` and `plan_leaves` of
 // specs/PlanText.antt say of valuing's checks and of the plan's text, which has at most `plan_bytes` bytes (specs/Size.antt). The
 // functions below it take slices, so that records of other sizes use them too. Assumes nothing.
+#![tactic(auto)]
+
 ghost use Rattle.std.specs.Prelude.{◌≡◌, ◌+◌, ◌≤◌, length};
 ghost use Rattle.day.specs.Sound.{day_limits, yard};
 ghost use Rattle.decimal.specs.Place.{Put};

@@ -3,6 +3,8 @@
 // Proved: for every record and all lent memory `plan` answers what `planned` of specs/Planning.antt says and leaves the row as
 // `row_after` says; of the two areas only the words that planning needs may change. specs/Demand.antt draws demand 3 from this.
 // Assumes nothing.
+#![tactic(auto)]
+
 ghost use Rattle.std.specs.Prelude.{◌≡◌, ◌≤◌, ◌*◌, ◌^◌, ◌&&◌, T, leb, length};
 ghost use Rattle.day.specs.Sound.{day_limits, yard, sound};
 ghost use Rattle.planning.specs.Planning.{answer, cost_words, choice_words, areas_suffice, planned, begins, row_after, open_words, Stays};
@@ -12,7 +14,7 @@ use counting::Value;
 use day::{Day, Refusal};
 use feasibility::Overbooked;
 
-#[derive(Drop)]
+#[derive(Clone, Copy)]
 pub enum Planned {
     Plan(Value),
     Refused(Refusal),

@@ -2,7 +2,8 @@
 -- Assumes nothing.
 use Rattle.std.specs.Prelude.{◌≡◌, List, ℕ, suc, ◌+◌, ◌^◌, ◌≤◌, ◌<◌, length, set}
 use Rattle.std.proofs.Common.{sym, ap, ◌∙◌, subst, pow-suc, arith, pow_mono}
-use Rattle.optimum.specs.Workspace.{at, kept_then}
+use Rattle.optimum.specs.Workspace.{at}
+use Rattle.optimum.proofs.Workspace.{kept_then}
 use Rattle.staging.specs.Tables.{from_outside}
 use Rattle.prices.specs.Entries.{with_pair, price_of, split_cost}
 use Rattle.tables.specs.Filled.{Filled, Added, filled_none, filled_next, filled_end, added-filled}

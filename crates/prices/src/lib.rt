@@ -3,6 +3,8 @@
 //
 // Proved: `fill_price` fills the first words of the lent slice with the entries of specs/Entries.antt, and leaves the words behind them as
 // they were. The table has an entry for each set, so n is at most 12. Assumes nothing.
+#![tactic(auto)]
+
 ghost use Rattle.std.specs.Prelude.{◌≡◌, ℕ, ◌+◌, ◌*◌, ◌^◌, ◌≤◌, ◌<◌, length};
 ghost use Rattle.model.specs.Model.{cell};
 ghost use Rattle.model.specs.Cells.{InTable};

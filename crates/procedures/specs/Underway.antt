@@ -15,7 +15,7 @@ use Rattle.fold.specs.Test.{of_true, both_of}
 use Rattle.fold.specs.Fold.{lowest-passes}
 use Rattle.fold.specs.Counting.{same_or, count_zero, count-more, count_le}
 use Rattle.model.specs.Model.{Yard, received, first_slot, last_slot, slot_of, load, fitting, in_time}
-use Rattle.model.specs.Rows.{is_fitting, both_le}
+use Rattle.model.proofs.Rows.{is_fitting, both_le}
 use Rattle.procedures.specs.Procedures.{track_free, suits, waits, earliest, take_earliest, come_to, first_come, priority, select, serve_next, fill_to, served_to, myopic}
 
 pub record Underway (y : Yard) (row : List ℕ) : Type 0 where

@@ -2,6 +2,8 @@
 //
 // Proved: each leaves the row that specs/Procedures.antt gives, with slot 0 for a train that gets none. The functions take slices, a width
 // and numbers, so that records of other sizes use them too. Assumes nothing.
+#![tactic(auto)]
+
 ghost use Rattle.std.specs.Prelude.{◌≡◌, ◌^◌, ◌≤◌, ◌<◌, pos, ◌-ℤ◌, length, replicate};
 ghost use Rattle.fold.specs.Fold.{some};
 ghost use Rattle.model.specs.Model.{cell};
@@ -185,7 +187,7 @@ pub fn serve_myopic(
 // ---- what is said of a row
 
 // The lowest position without a slot, counted from 0, or n.
-pub fn left_over_lem(row: &[u8], n: usize) -> usize
+pub fn left_over(row: &[u8], n: usize) -> usize
     requires { n ≤ length row.now }
     ensures { (result ≡ left_over n row.now) × (result ≤ n) }
 {

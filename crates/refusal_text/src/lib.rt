@@ -1,6 +1,8 @@
 // The two lines of a refusal as yard-plan prints them (document 01, "The program").
 //
 // Proved: `put_refusal` puts `refusal_text` of specs/RefusalText.antt at the front of an output that holds every refusal. Assumes nothing.
+#![tactic(auto)]
+
 ghost use Rattle.std.specs.Prelude.{◌≤◌, length};
 ghost use Rattle.day.specs.Answer.{number, carried};
 ghost use Rattle.decimal.specs.Place.{Put};

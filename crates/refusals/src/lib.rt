@@ -2,6 +2,8 @@
 //
 // Proved: `in_numbers` gives a refusal's number and what it carries, as day's Answer.antt says, `number_of` the number of a verdict. Assumes
 // nothing.
+#![tactic(auto)]
+
 ghost use Rattle.std.specs.Prelude.{◌≡◌, [], ◌∷◌};
 ghost use Rattle.day.specs.Answer.{number, carried};
 ghost use Rattle.refusals.specs.Numbers.{Tells, verdict_number};
@@ -9,7 +11,7 @@ ghost use Rattle.refusals.specs.Numbers.{Tells, verdict_number};
 use day::{Refusal, Verdict};
 
 // A refusal in the numbers of documents 01 and 02: its own, and the values that it carries, 0 where there are fewer than three.
-#[derive(Drop)]
+#[derive(Clone, Copy)]
 pub struct Numbered {
     pub number: u64,
     pub first: u64,

@@ -3,6 +3,8 @@
 //
 // Proved: `replan` gives the state of the best plan of a standing account, or the refusal; `begin` answers what `begun` of rolling's
 // Rolling.antt says, for every record and all lent memory. Assumes nothing.
+#![tactic(auto)]
+
 ghost use Rattle.std.specs.Prelude.{◌≡◌, true, T, length};
 ghost use Rattle.day.specs.Sound.{day_limits, yard};
 ghost use Rattle.planning.specs.Planning.{cost_area, choice_area, areas_suffice, open_words, Stays};

@@ -2,6 +2,8 @@
 //
 // Proved: `put_report` puts `report_text` of specs/ReportText.antt at the front of an output that holds it; for the numbers of a year 512
 // bytes do (specs/Size.antt). Assumes nothing.
+#![tactic(auto)]
+
 ghost use Rattle.std.specs.Prelude.{◌≡◌, ◌+◌, ◌≤◌, ◌<◌, length};
 ghost use Rattle.decimal.specs.Place.{Put};
 ghost use Rattle.period_report.specs.Report.{counters};

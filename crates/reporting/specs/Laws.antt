@@ -9,7 +9,7 @@ use Rattle.day.specs.Sound.{day_limits}
 use Rattle.day.specs.declared.Verdict.TheVariants.{Accepted}
 use Rattle.planning.specs.Planning.{areas_suffice}
 use Rattle.parting.specs.Parting.{days_from, days}
-use Rattle.parting.specs.Laws.{days_are, days_none}
+use Rattle.parting.proofs.Laws.{days_are, days_none}
 use Rattle.parting.specs.Walk.{part, NextEmpty}
 use Rattle.day_figures.specs.Figures.{day_answer}
 use Rattle.day_figures.specs.Laws.{Small}

@@ -16,7 +16,7 @@
 --   report-most     no total is above 366 times the greatest cost of a row, so none can wrap;
 --   periods-add     the tally over two periods is the sum of their tallies.
 -- Assumes nothing.
-use Rattle.std.specs.Prelude.{◌≡◌, refl, true, List, [], ◌∷◌, ◌++◌, map, ◌⊎◌, ℕ, suc, ◌+◌, ◌*◌, ◌≤◌, ◌<◌, leb, eqb, length, drop, replicate}
+use Rattle.std.specs.Prelude.{◌≡◌, refl, true, List, [], ◌∷◌, ◌++◌, map, ◌⊎◌, ℕ, suc, ◌+◌, ◌*◌, ◌≤◌, ◌<◌, eqb, length, drop, replicate}
 use Rattle.std.proofs.Common.{sym, ap₂, ◌∙◌, subst, mul-le-mul_right}
 use Rattle.std.proofs.Math.Path.{ap}
 use native.Mathlib.Omega.{arith}
@@ -33,10 +33,11 @@ use Rattle.day.specs.AnswerLaws.{Only, gives_same, checked_gives, refused_holdin
 use Rattle.day.specs.Most.{most_cost}
 use Rattle.day.specs.Sound.{day_limits}
 use Rattle.planning.specs.Planning.{cost_area, choice_area, areas_suffice, open_words, Stays}
-use Rattle.planning.specs.Answers.{areas_short, areas_enough}
-use Rattle.planning.specs.Laws.{stays_beyond}
+use Rattle.planning.proofs.Answers.{areas_short, areas_enough}
+use Rattle.planning.proofs.Laws.{stays_beyond}
 use Rattle.parting.specs.Parting.{days, joined_files}
-use Rattle.parting.specs.Accepted.{AllAccepted, accepted_days}
+use Rattle.parting.specs.Accepted.{AllAccepted}
+use Rattle.parting.proofs.Accepted.{accepted_days}
 use Rattle.day_figures.specs.Figures.{day_answer}
 use Rattle.day_figures.specs.Laws.{Within, Small, Moved}
 use Rattle.day_figures.specs.Means.{DayRefusal, day_only, day_moved, day_small}

@@ -4,6 +4,8 @@
 // Proved: for every text and all lent memory `report_period` answers what `period_report` of specs/Period.antt says, with zeros beside a
 // refusal; no byte of the text changes, and of the two areas only the words that every day can be planned in. specs/Promised.antt draws the
 // order's sentences from this. Assumes nothing.
+#![tactic(auto)]
+
 ghost use Rattle.std.specs.Prelude.{◌≡◌, ◌≤◌, length};
 ghost use Rattle.day.specs.Answer.{refusal, judged};
 ghost use Rattle.day.specs.Sound.{day_limits};
@@ -20,7 +22,7 @@ use period_report::{Report, Tally};
 const MOST_DAYS: usize = 366;
 
 // A report, or the refusal beside a report of zeros.
-#[derive(Drop)]
+#[derive(Clone, Copy)]
 pub struct Reported {
     pub verdict: Verdict,
     pub report: Report,

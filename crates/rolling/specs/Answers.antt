@@ -14,13 +14,15 @@ use Rattle.std.proofs.Common.{ap, ◌∙◌, inl, inr}
 use Rattle.std.proofs.Math.Option.{Option, none, some}
 use native.Mathlib.Omega.{arith}
 use Rattle.std.proofs.Math.Dec.{T, ltb→lt}
-use Rattle.model.specs.Model.{Yard, allowed, NoRow, overbooked, FirstOverbooked, bound_inside}
-use Rattle.model.specs.BestOf.{best_of, is_best, is_none_lem, none_is}
-use Rattle.model.specs.Overbooked.{Interval, first_overbooked, SaysFirst, first_says}
+use Rattle.model.specs.Model.{Yard, NoRow, overbooked, FirstOverbooked, bound_inside}
+use Rattle.model.specs.BestOf.{best_of}
+use Rattle.model.proofs.BestOf.{is_best, is_none_lem, none_is}
+use Rattle.model.specs.Overbooked.{Interval, first_overbooked, SaysFirst}
+use Rattle.model.proofs.Overbooked.{first_says}
 use Rattle.day.specs.Answer.{Answer, gives, refuses, on_given}
 use Rattle.day.specs.AnswerLaws.{AllHold, gives_same, checked_gives, checked_holds, given_before, Only, OnlyChecks, only_given, only_after}
 use Rattle.day.specs.declared.Limits.{Limits}
-use Rattle.feasibility.specs.RowOrNone.{none_spacious}
+use Rattle.feasibility.proofs.RowOrNone.{none_spacious}
 use Rattle.planning.specs.Planning.{areas_suffice, no_row, best_row}
 use Rattle.rolling.specs.Rolling.{Account, State, plan_of, account_of, state_of, Change, cancel, add, set_boxes, edited, cut, KeptRow, best_plan, Call, close, change, change_checks, call_checks, state_sound, state_made, state_checks, state_after, begun}
 use Rattle.rolling.specs.Cut.{Standing, keeps_cut, cut_keeps}

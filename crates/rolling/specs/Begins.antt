@@ -10,13 +10,14 @@ use Rattle.std.proofs.Common.{◌∙◌}
 use Rattle.std.proofs.Math.Option.{Option, none, some}
 use Rattle.fold.specs.Test.{is_true, is_false}
 use Rattle.model.specs.Model.{Yard, allowed, Best, NoRow}
-use Rattle.model.specs.BestOf.{best_of, is_none_lem}
+use Rattle.model.specs.BestOf.{best_of}
+use Rattle.model.proofs.BestOf.{is_none_lem}
 use Rattle.day.specs.Answer.{Answer, gives, refuses, on_given}
 use Rattle.day.specs.AnswerLaws.{checked_gives, checked_holds}
 use Rattle.day.specs.Sound.{sound}
 use Rattle.day.specs.declared.Limits.{Limits}
 use Rattle.planning.specs.Planning.{best_row}
-use Rattle.planning.specs.Answers.{areas_short, areas_enough}
+use Rattle.planning.proofs.Answers.{areas_short, areas_enough}
 use Rattle.rolling.specs.Rolling.{State, plan_of, state_of, best_plan, begun_account, begun_checks, begun}
 use Rattle.rolling.specs.Cut.{kept-best}
 use Rattle.rolling.specs.Follows.{begun-standing, begun-cut, begin_follows}

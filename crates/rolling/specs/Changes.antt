@@ -13,9 +13,10 @@ use Rattle.fold.specs.Fold.{count}
 use Rattle.fold.specs.Counting.{le_or_lt, same_or, count_suc, count_le}
 use Rattle.fold.specs.Listed.{listed, length-listed, listed_at}
 use Rattle.model.specs.Model.{slot_of, load, fitting, kept, allowed}
-use Rattle.model.specs.Rows.{allowed_is, is_fitting, allowed_keeps, fits_allowed}
-use Rattle.model.specs.Groups.{grouped_of, grouped_by, kept_of, kept_by}
-use Rattle.model.specs.BestOf.{best_of, is_none_lem}
+use Rattle.model.proofs.Rows.{allowed_is, is_fitting, allowed_keeps, fits_allowed}
+use Rattle.model.proofs.Groups.{grouped_of, grouped_by, kept_of, kept_by}
+use Rattle.model.specs.BestOf.{best_of}
+use Rattle.model.proofs.BestOf.{is_none_lem}
 use Rattle.day.specs.AnswerLaws.{AllHold}
 use Rattle.day.specs.Sound.{train_ranges}
 use Rattle.day.specs.SoundLaws.{within_is}

@@ -5,7 +5,7 @@ use Rattle.std.specs.Prelude.{◌≡◌, refl, List, ◌↔◌, ℕ, suc, ◌≤
 use Rattle.std.proofs.Common.{◌∙◌, ⊎_elim, arith, eq-eqb, ne_eqb}
 use Rattle.fold.specs.Counting.{le_or_lt}
 use Rattle.model.specs.Model.{first_slot, last_slot, slot_of, cost, allowed, by_sets, precedes, Best}
-use Rattle.model.specs.Rows.{allowed_is, is_fitting, allowed_keeps, fits_allowed}
+use Rattle.model.proofs.Rows.{allowed_is, is_fitting, allowed_keeps, fits_allowed}
 use Rattle.day.specs.Sound.{sound}
 use Rattle.day.specs.declared.Limits.{Limits}
 use Rattle.fold.specs.Column.{column-length, column-at, column_past}

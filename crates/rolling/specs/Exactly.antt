@@ -22,7 +22,7 @@ use Rattle.day.specs.Sound.{day_limits, within, train_ranges}
 use Rattle.day.specs.SoundDay.{SoundDay, number_at, sound_day}
 use Rattle.day.specs.SoundLaws.{within_is, is_within}
 use Rattle.planning.specs.Planning.{areas_suffice}
-use Rattle.planning.specs.Answers.{areas_short, areas_enough}
+use Rattle.planning.proofs.Answers.{areas_short, areas_enough}
 use Rattle.rolling.specs.Rolling.{Account, State, account_of, place_of, is_listed, Change, cancel, add, set_boxes, edited, number_in, Call, close, change, change_checks, state_sound, state_after}
 use Rattle.rolling.specs.Places.{listed_there}
 use Rattle.rolling.specs.States.{SoundState, sound_state, state_sound_lem, at_closed, at_open, in_window_lem}

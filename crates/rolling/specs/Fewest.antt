@@ -6,7 +6,8 @@
 use Rattle.std.specs.Prelude.{◌≡◌, refl, List, [], ◌∷◌, ◌↔◌, ℕ, ◌≤◌, T}
 use Rattle.std.proofs.Common.{sym, ap, ◌∙◌, subst, arith}
 use Rattle.model.specs.Model.{Yard, cost, allowed}
-use Rattle.model.specs.Fewest.{Outweighs, FewestOf, cheapest_fewest, fewest_cheapest}
+use Rattle.model.specs.Fewest.{Outweighs, FewestOf}
+use Rattle.model.proofs.Fewest.{cheapest_fewest, fewest_cheapest}
 use Rattle.day.specs.Answer.{Answer, gives, refuses}
 use Rattle.day.specs.AnswerLaws.{gives_same, checked_gives, given_before}
 use Rattle.day.specs.Sound.{day_limits, sound}

@@ -10,7 +10,8 @@ use Rattle.std.proofs.Math.Nat.{max-eq_left}
 use Rattle.std.proofs.lemmas.List.{length-replicate}
 use Rattle.fold.specs.Test.{is_true}
 use Rattle.model.specs.Model.{Yard, first_slot, last_slot, slot_of, Best}
-use Rattle.model.specs.BestOf.{best_of, best_is, is_best}
+use Rattle.model.specs.BestOf.{best_of}
+use Rattle.model.proofs.BestOf.{best_is, is_best}
 use Rattle.model.specs.Overbooked.{Interval, first_overbooked}
 use Rattle.day.specs.Answer.{Answer, gives, refuses, on_given, Check, must, checked}
 use Rattle.day.specs.AnswerLaws.{AllHold, gives_same, checked_gives, given_before}

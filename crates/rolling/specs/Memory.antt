@@ -10,7 +10,7 @@ use Rattle.day.specs.Answer.{Answer, gives, refuses, on_given, Check, checked, h
 use Rattle.day.specs.AnswerLaws.{holding_all, checked_holds, Only, only_given}
 use Rattle.day.specs.declared.Limits.{Limits}
 use Rattle.planning.specs.Planning.{cost_area, choice_area, open_words, Stays}
-use Rattle.planning.specs.Laws.{stays_beyond}
+use Rattle.planning.proofs.Laws.{stays_beyond}
 use Rattle.rolling.specs.Rolling.{Account, State, account_of, state_of, Change, edited, cut, best_plan, change, state_checks, state_after, begun_account, begun_checks, begun, state_begins, begun_begins}
 use Rattle.rolling.specs.Refusals.{OfPlanning, plan_only}
 

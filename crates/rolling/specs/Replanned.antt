@@ -14,14 +14,15 @@ use Rattle.fold.specs.Test.{both_of}
 use Rattle.fold.specs.Counting.{le_or_lt}
 use Rattle.fold.specs.Column.{column, column-length, column-at, column_past, zeros-at}
 use Rattle.model.specs.Model.{Yard, Outcome, outcome, slot_of}
-use Rattle.model.specs.Rows.{allowed_is}
-use Rattle.model.specs.BestOf.{best_of, is_best}
+use Rattle.model.proofs.Rows.{allowed_is}
+use Rattle.model.specs.BestOf.{best_of}
+use Rattle.model.proofs.BestOf.{is_best}
 use Rattle.day.specs.Answer.{Answer, gives, refuses, on_given}
 use Rattle.day.specs.Sound.{day_limits, sound}
 use Rattle.day.specs.SoundLaws.{sound_is}
 use Rattle.planning.specs.Planning.{cost_words, choice_words, cost_area, choice_area, areas_suffice, best_row, best_answer, planned, begins, placed, row_after, open_words, Stays}
-use Rattle.planning.specs.Answers.{none_gives, planned-begun, row-begun}
-use Rattle.planning.specs.Demand.{memory_suffices}
+use Rattle.planning.proofs.Answers.{none_gives, planned-begun, row-begun}
+use Rattle.planning.proofs.Demand.{memory_suffices}
 use Rattle.rolling.specs.Rolling.{best_plan}
 
 -- a row put into zeros is the column of its slots

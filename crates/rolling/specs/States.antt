@@ -11,7 +11,7 @@ use Rattle.fold.specs.Test.{of_true, both, both_of, left, right, either_of}
 use Rattle.fold.specs.Fold.{each, each_at, each_i}
 use Rattle.fold.specs.Counting.{le_or_lt, same_or}
 use Rattle.model.specs.Model.{slot_of, first_slot, last_slot, allowed}
-use Rattle.model.specs.Rows.{allowed_is}
+use Rattle.model.proofs.Rows.{allowed_is}
 use Rattle.day.specs.Sound.{sound}
 use Rattle.day.specs.declared.Limits.{Limits}
 use Rattle.fold.specs.Column.{column, column-length, column-at, column_past, column_ext, is_column}

@@ -3,6 +3,8 @@
 // Proved: for every state and all lent memory each call answers what `state_after` of rolling's Rolling.antt says; a refused one gives the
 // state back as it was; where a check fails no word of the two areas changes, else only their first 4,096 and 32,768 may. Rolling's
 // Follows.antt draws order 7's theorem from this. Assumes nothing.
+#![tactic(auto)]
+
 ghost use Rattle.std.specs.Prelude.{◌≡◌, T, length};
 ghost use Rattle.day.specs.Sound.{day_limits};
 ghost use Rattle.planning.specs.Planning.{cost_area, choice_area, open_words, Stays};

@@ -15,7 +15,7 @@ use Rattle.day.specs.Sound.{day_limits, sound}
 use Rattle.day.specs.SoundLaws.{sound_is}
 use Rattle.day.specs.declared.Limits.{Limits}
 use Rattle.valuing.specs.Valuing.{valued}
-use Rattle.valuing.specs.Laws.{valued-allowed, allowed-valued}
+use Rattle.valuing.proofs.Laws.{valued-allowed, allowed-valued}
 use Rattle.rolling.specs.Rolling.{State, plan_of, close, state_sound, state_after, or_before}
 use Rattle.rolling.specs.States.{sound_state}
 use Rattle.rolling_state.specs.States.{state_in, answer, Says, zero_past}

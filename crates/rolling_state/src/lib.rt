@@ -3,6 +3,8 @@
 //
 // Proved: `is_state_sound` is `state_sound` of rolling's Rolling.antt, and `close` answers what `state_after` there says, for every state; a
 // refused call gives the state back as it was. Assumes nothing.
+#![tactic(auto)]
+
 ghost use Rattle.std.specs.Prelude.{◌≡◌, ◌≤◌, length};
 ghost use Rattle.fold.specs.Fold.{each};
 ghost use Rattle.day.specs.Answer.{gives, refusal};
@@ -14,7 +16,7 @@ use day::{Day, Refusal, Verdict};
 use valuing::Valued;
 
 // What a call is handed and gives back, by value. Slots past the day's trains are 0.
-#[derive(Drop)]
+#[derive(Clone, Copy)]
 pub struct RollingState {
     pub day: Day,
     pub closed: u32,
@@ -22,7 +24,7 @@ pub struct RollingState {
 }
 
 // The new state; or a refusal, and the state as it was given (of `begin`, which is given none, zeros).
-#[derive(Drop)]
+#[derive(Clone, Copy)]
 pub struct Rolled {
     pub verdict: Verdict,
     pub state: RollingState,

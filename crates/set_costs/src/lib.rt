@@ -2,6 +2,8 @@
 //
 // Proved: the sums over the set that `beam` gives for the two counts (SlotCosts.antt), bounded by the number of its trains; the test of
 // discards by counting (Shortcuts.antt). `n` is read by the contracts alone. Over slices, for up to 36 trains. Assumes nothing.
+#![tactic(auto)]
+
 ghost use Rattle.std.specs.Prelude.{◌≡◌, ℕ, suc, ◌+◌, ◌-◌, ◌*◌, ◌^◌, ◌≤◌, ◌<◌, ltb, length};
 ghost use Rattle.std.specs.Int.Bits.{bit_and};
 ghost use Rattle.std.specs.Int.Count.{ones};
@@ -33,7 +35,7 @@ fn boxes_from(boxes: &[u8], width: usize, n: usize, i: usize, s: u64) -> u64
 // The boxes that the trains of s receive from outside s, where `incoming` has what each train receives.
 pub fn boxes_from_outside(boxes: &[u8], width: usize, n: usize, incoming: &[u64], s: u64) -> u64
     requires { Given n width boxes.now × (n ≤ length incoming.now) × (s < 2 ^ n) × ((i : ℕ) → i < n → (sum_over n s (cell width boxes.now i) ≤ at incoming.now i) × (at incoming.now i ≤ 9180)) }
-    ensures* { λ r. ⌜ (r ≡ sum_over n s λ i. at incoming.now i - sum_over n s (cell width boxes.now i)) × (r ≤ 9180 * ones s) ⌝ }
+    ensures { (result ≡ sum_over n s λ i. at incoming.now i - sum_over n s (cell width boxes.now i)) × (result ≤ 9180 * ones s) }
 {
     let mut total: u64 = 0;
     let mut left = s;
@@ -48,7 +50,7 @@ pub fn boxes_from_outside(boxes: &[u8], width: usize, n: usize, incoming: &[u64]
 // How many trains of s have a supplier in `rest`.
 pub fn late_trains(suppliers: &[u64], n: usize, s: u64, rest: u64) -> u64
     requires { (n ≤ 36) × (n ≤ length suppliers.now) × (s < 2 ^ n) }
-    ensures* { λ r. ⌜ (r ≡ sum_over n s λ i. bit (ltb 0 (bit_and rest (at suppliers.now i)))) × (r ≤ 1 * ones s) ⌝ }
+    ensures { (result ≡ sum_over n s λ i. bit (ltb 0 (bit_and rest (at suppliers.now i)))) × (result ≤ 1 * ones s) }
 {
     let mut late: u64 = 0;
     let mut left = s;

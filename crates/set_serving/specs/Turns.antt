@@ -13,12 +13,14 @@ use Rattle.model.specs.Model.{Yard}
 use Rattle.optimum.specs.Workspace.{at}
 use Rattle.staging.specs.Tables.{open_in, slot_cost}
 use Rattle.beam.specs.Beam.{Plan, rest, cost_so_far, discarded, may_serve, kept}
-use Rattle.beam.specs.Paths.{rest_lt, is_fits, may_serve_lem, serves}
+use Rattle.beam.proofs.Paths.{rest_lt, is_fits, may_serve_lem, serves}
 use Rattle.beam.specs.Words.{word_of}
 use Rattle.beam.specs.HeldWords.{held_word, held_before}
-use Rattle.beam.specs.Shortcuts.{ends_by, discarded_is}
-use Rattle.beam.specs.Gathering.{from, And, at_place}
-use Rattle.beam.specs.Successors.{kept_of, remained_path}
+use Rattle.beam.specs.Shortcuts.{ends_by}
+use Rattle.beam.proofs.Shortcuts.{discarded_is}
+use Rattle.beam.specs.Gathering.{from, And}
+use Rattle.beam.proofs.Gathering.{at_place}
+use Rattle.beam.proofs.Successors.{kept_of, remained_path}
 use Rattle.offering.specs.Offered.{Offered}
 use Rattle.gathering.specs.Gathering.{Gathering, Passed, Words, gathering_dearer, gathering_offered, gathering_later, gathering_barred}
 use Rattle.candidates.specs.declared.Sizes.{Sizes}

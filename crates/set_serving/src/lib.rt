@@ -3,6 +3,8 @@
 //
 // Proved: what that does to the plans gathered (specs/Serving.antt), on every day whose tables are those given and that overbooks no interval. Over
 // slices, for up to 36 trains, 4 tracks and 12 slots. Assumes nothing.
+#![tactic(auto)]
+
 ghost use Rattle.std.specs.Prelude.{◌≡◌, true, false, ◌+◌, ◌-◌, ◌*◌, ◌≤◌, ◌<◌, length, get_or};
 ghost use Rattle.std.specs.Int.Count.{ones};
 ghost use Rattle.sets.specs.Subset.{Sub};

@@ -1,1 +1,2 @@
 // Sets of positions as numbers: definitions and laws, in specs/. No code.
+#![tactic(auto)]

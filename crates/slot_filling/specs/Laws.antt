@@ -9,11 +9,13 @@ use Rattle.std.specs.Int.Count.{ones}
 use Rattle.fold.specs.Test.{of_true, either_of, not_of}
 use Rattle.sets.specs.Subset.{Sub, sub_le, sub_refl, sub_trans, sub_or_left, sub_or_right}
 use Rattle.optimum.specs.Workspace.{at}
-use Rattle.optimum.specs.Stages.{tab, choice, tab_small}
-use Rattle.optimum.specs.Direct.{crowded_none, outside_none}
+use Rattle.optimum.specs.Stages.{tab, choice}
+use Rattle.optimum.proofs.Stages.{tab_small}
+use Rattle.optimum.proofs.Direct.{crowded_none, outside_none}
 use Rattle.optimum.specs.Layers.{Table}
 use Rattle.staging.specs.Tables.{Tables, keys_below, no_cost, from_tables, key_from_tables}
-use Rattle.staging.specs.Reachable.{Reachable, reachable_next}
+use Rattle.staging.specs.Reachable.{Reachable}
+use Rattle.staging.proofs.Reachable.{reachable_next}
 use Rattle.cells.specs.declared.Pick.{Pick}
 use Rattle.cells.specs.Given.{Given, Rests}
 use Rattle.cells.specs.Laws.{serve_open, serve_priced, served_fits}

@@ -2,6 +2,8 @@
 //
 // Proved: each function leaves the table and the choices of its slot for what can remain, as optimum's `Solved` says. Over slices, for up to
 // 12 trains and 8 slots. Assumes nothing.
+#![tactic(auto)]
+
 ghost use Rattle.std.specs.Prelude.{◌+◌, ◌-◌, ◌*◌, ◌≤◌, ◌<◌, length};
 ghost use Rattle.optimum.specs.Layers.{Every};
 ghost use Rattle.staging.specs.Tables.{tables_of};

@@ -1,7 +1,7 @@
 -- The walk through the sets of one plan, from the words of the plan: where it begins, its next set, its end. And the plans of one slot, one
 -- after another.
 -- Assumes nothing.
-use Rattle.std.specs.Prelude.{◌≡◌, Bool, List, ℕ, suc, ◌+◌, ◌-◌, ◌*◌, ◌≤◌, ◌<◌, ltb, length, get_or}
+use Rattle.std.specs.Prelude.{◌≡◌, Bool, List, ℕ, suc, ◌+◌, ◌*◌, ◌≤◌, ◌<◌, ltb, length, get_or}
 use Rattle.std.proofs.Common.{sym, ap₂, ◌∙◌, subst, add-one, arith}
 use Rattle.std.specs.Int.Bits.{bit_and}
 use Rattle.sets.specs.Subset.{Sub, walk, sub_trans, sub_and}

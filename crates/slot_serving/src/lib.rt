@@ -2,6 +2,8 @@
 //
 // Proved: after the plans kept after a slot the array holds those kept after the next, and the flag says that more remained (specs/Serving.antt), on
 // every day whose tables are those given and that overbooks no interval. Over slices, for up to 36 trains, 4 tracks and 12 slots. Assumes nothing.
+#![tactic(auto)]
+
 ghost use Rattle.std.specs.Prelude.{◌≡◌, ◌+◌, ◌≤◌, ◌<◌, length};
 ghost use Rattle.set_serving.specs.Serving.{SearchTables, PlanWords, PlanArray};
 ghost use Rattle.slot_serving.specs.Serving.{ServesPlan, ServesSlot};

@@ -1,3 +1,1 @@
 pub mod Slots
-pub mod Choice
-pub mod Laws

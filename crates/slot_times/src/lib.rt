@@ -3,6 +3,8 @@
 //
 // Proved: each function is its definition in specs/Slots.antt. specs/Laws.antt: which slots are used, and which the first and the last are.
 // Assumes nothing.
+#![tactic(auto)]
+
 ghost use Rattle.std.specs.Prelude.{◌≡◌, ◌≤◌};
 ghost use Rattle.slot_times.specs.Slots.{slots_between, first_slot, last_slot};
 

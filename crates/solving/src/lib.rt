@@ -2,6 +2,8 @@
 //
 // Proved: `solve` leaves the least key of all trains and the choices of all slots for what can remain of them, as optimum's `Solved`
 // says. Over slices, for up to 12 trains and 8 slots. Assumes nothing.
+#![tactic(auto)]
+
 ghost use Rattle.std.specs.Prelude.{◌-◌, ◌*◌, ◌≤◌, ◌<◌, length};
 ghost use Rattle.staging.specs.Tables.{tables_of};
 ghost use Rattle.staging.specs.Reachable.{Reachable};

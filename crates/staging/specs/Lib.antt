@@ -7,4 +7,3 @@ pub mod KeyBySlot
 pub mod BestPlan
 pub mod SlotInRow
 pub mod FromTables
-pub mod Solution

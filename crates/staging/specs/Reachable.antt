@@ -8,19 +8,8 @@ use Rattle.sets.specs.Subset.{Sub, ones_rest}
 use Rattle.model.specs.Model.{Yard}
 use Rattle.optimum.specs.Layers.{Closed}
 use Rattle.staging.specs.Tables.{servable}
-use Rattle.staging.specs.Serving.{servable_is}
 
 -- of N sets, the last of which holds all trains
 pub record Reachable (N tracks j r : ℕ) : Type 0 where
   pub first : j ≡ 0 → r ≡ N - 1
   pub enough : ones (N - 1) ≤ ones r + j * tracks
-
-pub reachable_all : (N tracks : ℕ) → Reachable N tracks 0 (N - 1)
-reachable_all N tracks = record { first = λ e. refl; enough = omega arith }
-
-pub reachable_next : {N tracks j r : ℕ} (s : ℕ) → Reachable N tracks j r → Sub s r → ones s ≤ tracks → Reachable N tracks (suc j) (r - s)
-reachable_next {r = r} s h hs l = record { first = λ e. absurd (omega arith); enough = omega (arith, h.enough, ones_rest s r hs) }
-
-pub reachable_closed : (y : Yard) (N : ℕ) → Closed (servable y) (Reachable N y.tracks)
-reachable_closed y N j r s h hs may =
-    reachable_next s h hs (servable_is y (suc j) r s may).room

@@ -1,5 +1,6 @@
 // The model as staged choices: definitions and laws, in specs/. The two marks in the tables and the two units of a key are
 // here, for the crates that fill and read them.
+#![tactic(auto)]
 
 // The price of a set that has more trains than tracks, or parts a group.
 pub const BARRED: u32 = 4294967295;

@@ -3,6 +3,8 @@
 //
 // Proved: `state_of` gives what `kept_state` of specs/StateText.antt says, for every text, number and row; `put_state` writes what is said
 // there. specs/Kept.antt: what is written reads again as the same state. Assumes nothing.
+#![tactic(auto)]
+
 ghost use Rattle.std.specs.Prelude.{◌≡◌, ◌∷◌, ◌++◌, ◌≤◌, T, length, drop};
 ghost use Rattle.fold.specs.Column.{column};
 ghost use Rattle.model.specs.Model.{slot_of};

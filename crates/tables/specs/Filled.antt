@@ -4,7 +4,8 @@
 use Rattle.std.specs.Prelude.{◌≡◌, refl, List, ◌⊎◌, ◌≢◌, ℕ, ◌+◌, ◌-◌, ◌≤◌, ◌<◌, length, get_or, set, drop}
 use Rattle.std.proofs.Common.{sym, ap, ◌∙◌, subst, inl, inr, le_antisymm, arith, drop-drop, get_or-drop, get_or-set_same, get_or-set_other}
 use Rattle.fold.specs.Counting.{same_or, le_or_lt}
-use Rattle.optimum.specs.Workspace.{at, Kept, kept_here, kept_then, kept_set, set_at}
+use Rattle.optimum.specs.Workspace.{at, Kept}
+use Rattle.optimum.proofs.Workspace.{kept_here, kept_then, kept_set, set_at}
 
 pub record Filled (f : ℕ → ℕ) (N : ℕ) (a₀ a : List ℕ) : Type 0 where
   pub kept : Kept N a₀ a

@@ -3,6 +3,8 @@
 //
 // Proved: each call fills the first words of the lent slice with the entries of specs/Entries.antt and of `staging`, and leaves the
 // words behind them as they were. The tables have an entry for each set, so n is at most 12. Assumes nothing.
+#![tactic(auto)]
+
 ghost use Rattle.std.specs.Prelude.{◌≡◌, ℕ, suc, ◌+◌, ◌*◌, ◌^◌, ◌≤◌, ◌<◌, length};
 ghost use Rattle.std.specs.Int.Count.{ones};
 ghost use Rattle.model.specs.Model.{cell};

@@ -1,6 +1,8 @@
 // Numbers told to a caller: the four numbers of a row, or what a refusal carries, in memory that the caller lends.
 //
 // Proved: each function stores at the front what specs/Telling.antt says, and leaves the numbers beyond. Assumes nothing.
+#![tactic(auto)]
+
 ghost use Rattle.std.specs.Prelude.{◌≡◌, ◌∷◌, ◌++◌, ◌≤◌, leb, length, drop};
 ghost use Rattle.day.specs.Answer.{gives, refusal};
 ghost use Rattle.counting.specs.Counting.{outcome_of};

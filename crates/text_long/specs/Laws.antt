@@ -7,7 +7,6 @@ use Rattle.model.specs.Model.{Yard}
 use Rattle.day.specs.Answer.{Answer, gives, refusal, code}
 use Rattle.day.specs.declared.Refusal.{Refusal}
 use Rattle.refusals.specs.Numbers.{no_more}
-use Rattle.counting.specs.Counting.{figures_of}
 use Rattle.dayfile.specs.Reading.{read_day}
 use Rattle.telling.specs.Telling.{numbers_told, slots_in}
 use Rattle.telling.specs.Laws.{ToldBy, Told, told-values, told_same, told_after, numbers_kept, no_room, with_room_lem}

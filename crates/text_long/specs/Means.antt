@@ -12,15 +12,16 @@
 -- For every text, every width and all lent memory:
 --   text-memory    a refusal leaves every byte of the row and tells no slots; bytes beyond the first n never change.
 -- Assumes nothing.
-use Rattle.std.specs.Prelude.{◌≡◌, List, [], ◌∷◌, ◌++◌, ◌⊎◌, ℕ, ◌≤◌, ◌<◌, T, leb, length}
+use Rattle.std.specs.Prelude.{◌≡◌, List, [], ◌∷◌, ◌++◌, ◌⊎◌, ℕ, ◌≤◌, ◌<◌, T, length}
 use Rattle.std.proofs.Math.Path.{refl, ap, subst}
 use Rattle.std.proofs.Common.{sym, ◌∙◌, arith, le-leb}
 use Rattle.std.proofs.Math.Option.{Option, none, some}
 use Rattle.std.proofs.Math.ListN.{drop}
 use Rattle.std.proofs.lemmas.Bool.{lt-leb}
 use Rattle.model.specs.Model.{Yard, outcome, cost, bound_inside, allowed, Best, SomeRow, NoRow, FirstOverbooked}
-use Rattle.model.specs.Rows.{allowed_is}
-use Rattle.model.specs.Overbooked.{SaysFirst, first_says}
+use Rattle.model.proofs.Rows.{allowed_is}
+use Rattle.model.specs.Overbooked.{SaysFirst}
+use Rattle.model.proofs.Overbooked.{first_says}
 use Rattle.day.specs.Answer.{Answer, gives, refuses}
 use Rattle.day.specs.Sound.{sound}
 use Rattle.dayfile.specs.Reading.{read_day}
@@ -32,7 +33,7 @@ use Rattle.beam.specs.Beam.{full_slots, beam_row}
 use Rattle.beam.specs.LowerFigure.{lower_figure}
 use Rattle.long_day.specs.LongDay.{long_limits}
 use Rattle.long_planning.specs.LongPlanning.{LongOutcome, is_width, found_answer, long_planned, long_row_after}
-use Rattle.long_planning.specs.Promised.{found-allowed, found_nowhere, found-lower, found-best, found_none, long_planned_lem, long_row_lem, long_width_lem, long_short, long_kept, long_beyond}
+use Rattle.long_planning.proofs.Promised.{found-allowed, found_nowhere, found-lower, found-best, found_none, long_planned_lem, long_row_lem, long_width_lem, long_short, long_kept, long_beyond}
 use Rattle.text_long.specs.TextLong.{long_number_count, long_figures, long_numbers_after, long_day_for, long_plan_for, long_row_for, long_slots_for}
 
 -- ---- the day of the text, with room for six numbers

@@ -4,6 +4,8 @@
 // Proved: for every text, row, width and lent memory `check_long_text` and `value_long_text` return and leave what text_value's
 // TextValue.antt says at the limits of long days, and `plan_long_text` what specs/TextLong.antt says, by the definitions of reading and of
 // planning; specs/Means.antt says in the model's words what that means. Assumes nothing.
+#![tactic(auto)]
+
 ghost use Rattle.std.specs.Prelude.{◌≡◌, ◌≤◌, length, set};
 ghost use Rattle.day.specs.Answer.{gives, refusal, code};
 ghost use Rattle.valuing.specs.Valuing.{valued};

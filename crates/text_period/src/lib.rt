@@ -2,6 +2,8 @@
 //
 // Proved: for every text and lent memory `tell_report` returns and leaves what specs/TextPeriod.antt says; specs/Laws.antt has the header's words
 // for it. Assumes nothing.
+#![tactic(auto)]
+
 ghost use Rattle.std.specs.Prelude.{◌≡◌, ◌+◌, ◌≤◌, length};
 ghost use Rattle.day.specs.Answer.{code};
 ghost use Rattle.day.specs.Sound.{day_limits};

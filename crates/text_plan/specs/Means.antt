@@ -6,25 +6,27 @@
 --   text-memory    after 1 to 7, 15 and 10 nothing lent has changed; after 9 and 16 the row has not; words beyond 2^n and T × 2^n never do; no
 --                  slots are told with any refusal.
 -- Assumes nothing.
-use Rattle.std.specs.Prelude.{◌≡◌, ◌⊎◌, ℕ, ◌*◌, ◌^◌, ◌≤◌, T, leb, length}
+use Rattle.std.specs.Prelude.{◌≡◌, ◌⊎◌, ℕ, ◌*◌, ◌^◌, ◌≤◌, T, length}
 use Rattle.std.proofs.Math.Path.{refl, ap}
-use Rattle.std.proofs.Common.{sym, ◌∙◌, subst, le-leb}
+use Rattle.std.proofs.Common.{◌∙◌, subst, le-leb}
 use mathlib.Core.List.{List, [], ◌∷◌, ◌++◌}
 use Rattle.std.proofs.Math.Logic.{inl, inr}
 use Rattle.std.proofs.Math.Option.{Option, none, some}
 use Rattle.std.proofs.Math.ListN.{drop}
-use Rattle.model.specs.Model.{Yard, Outcome, outcome, bound_inside, Best, SomeRow, NoRow, overbooked, FirstOverbooked}
-use Rattle.model.specs.Rows.{allowed_is}
-use Rattle.model.specs.BestOf.{best_of, is_best, is_none_lem, none_is}
-use Rattle.model.specs.Overbooked.{Interval, first_overbooked, SaysFirst, first_says}
+use Rattle.model.specs.Model.{Yard, outcome, bound_inside, Best, SomeRow, NoRow, overbooked, FirstOverbooked}
+use Rattle.model.proofs.Rows.{allowed_is}
+use Rattle.model.specs.BestOf.{best_of}
+use Rattle.model.proofs.BestOf.{is_best, is_none_lem, none_is}
+use Rattle.model.specs.Overbooked.{Interval, first_overbooked, SaysFirst}
+use Rattle.model.proofs.Overbooked.{first_says}
 use Rattle.day.specs.Answer.{Answer, gives, refuses}
 use Rattle.day.specs.declared.Limits.{Limits}
 use Rattle.dayfile.specs.Reading.{read_day}
 use Rattle.dayfile.specs.RoundTrip.{read_sound}
-use Rattle.feasibility.specs.RowOrNone.{none_spacious}
+use Rattle.feasibility.proofs.RowOrNone.{none_spacious}
 use Rattle.planning.specs.Planning.{cost_words, choice_words, no_row, best_answer, NoRowRefusal, planned, begins, placed, row_after, Stays}
-use Rattle.planning.specs.Answers.{none_answer, planned-begun, row-begun, refuses_only}
-use Rattle.planning.specs.Demand.{memory_suffices, memory_after}
+use Rattle.planning.proofs.Answers.{none_answer, planned-begun, row-begun, refuses_only}
+use Rattle.planning.proofs.Demand.{memory_suffices, memory_after}
 use Rattle.telling.specs.Telling.{number_count, day_for, slots_in}
 use Rattle.telling.specs.Laws.{with_room_lem, day_read}
 use Rattle.text_plan.specs.TextPlan.{plan_for, row_for, open_for, slots_for}

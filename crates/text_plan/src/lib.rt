@@ -2,6 +2,8 @@
 //
 // Proved: for every text and all lent memory `plan_text` answers and leaves what specs/TextPlan.antt says, by the definitions of reading and
 // of planning. Assumes nothing.
+#![tactic(auto)]
+
 ghost use Rattle.std.specs.Prelude.{◌≡◌, ◌≤◌, length};
 ghost use Rattle.day.specs.Answer.{code};
 ghost use Rattle.day.specs.Sound.{day_limits, yard};

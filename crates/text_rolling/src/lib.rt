@@ -3,6 +3,8 @@
 //
 // Proved: for every text, row and all lent memory each function answers and leaves what specs/TextRolling.antt says, by the definitions of
 // reading and of the calls. Assumes nothing.
+#![tactic(auto)]
+
 ghost use Rattle.std.specs.Prelude.{◌≡◌, ◌≤◌, length};
 ghost use Rattle.day.specs.Answer.{code};
 ghost use Rattle.day.specs.Sound.{day_limits, yard};

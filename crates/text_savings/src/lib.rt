@@ -1,6 +1,8 @@
 // What planning saves against a procedure on the day of a text, in numbers told to a caller.
 //
 // Proved: for every text and lent memory `compare_text` returns and leaves what specs/TextSavings.antt says. Assumes nothing.
+#![tactic(auto)]
+
 ghost use Rattle.std.specs.Prelude.{◌≡◌, ◌≤◌, length};
 ghost use Rattle.day.specs.Answer.{code, judged};
 ghost use Rattle.day.specs.Sound.{day_limits, yard};

@@ -1,6 +1,8 @@
 // Checking a text, and valuing a row of slots for the day of a text, in numbers told to a caller.
 //
 // Proved: for every text, row and lent memory `check_text` and `value_text` return and leave what specs/TextValue.antt says. Assumes nothing.
+#![tactic(auto)]
+
 ghost use Rattle.std.specs.Prelude.{◌≡◌, ◌≤◌, length};
 ghost use Rattle.day.specs.Answer.{code};
 ghost use Rattle.day.specs.Sound.{day_limits, yard};

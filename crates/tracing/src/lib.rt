@@ -2,6 +2,8 @@
 //
 // Proved: `trace` writes the row that the choices give, as optimum's `row_in` says, and no byte behind it. Over slices, for up to 12 trains
 // and 8 slots. Assumes nothing.
+#![tactic(auto)]
+
 ghost use Rattle.std.specs.Prelude.{◌≡◌, ◌*◌, ◌^◌, ◌≤◌, length, take, drop};
 ghost use Rattle.optimum.specs.Chosen.{row_in, Leads};
 

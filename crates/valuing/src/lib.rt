@@ -3,6 +3,8 @@
 //
 // Proved: for every record and every row `value_assignment` answers what `valued` of specs/Valuing.antt says. The functions below it
 // take slices, a width and numbers, so that records of other sizes use them too. Assumes nothing.
+#![tactic(auto)]
+
 ghost use Rattle.std.specs.Prelude.{◌≡◌, [], ◌≤◌, ◌<◌, ◌*◌, length};
 ghost use Rattle.fold.specs.Fold.{lowest};
 ghost use Rattle.model.specs.Model.{in_window, roomy};
@@ -13,7 +15,7 @@ ghost use Rattle.valuing.specs.Valuing.{strays, overfull, answer, valued_row, va
 use counting::Value;
 use day::{Day, Head, Limits, Refusal};
 
-#[derive(Drop)]
+#[derive(Clone, Copy)]
 pub enum Valued {
     Values(Value),
     Refused(Refusal),

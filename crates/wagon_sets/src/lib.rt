@@ -2,6 +2,8 @@
 //
 // Proved: `first_parted` is the lowest group that a row parts, as the model's Model.antt says. Over slices, so that records of other sizes
 // use it too. Assumes nothing.
+#![tactic(auto)]
+
 ghost use Rattle.std.specs.Prelude.{◌≡◌, ◌≤◌, ◌<◌, length};
 ghost use Rattle.fold.specs.Fold.{some, lowest};
 ghost use Rattle.model.specs.Model.{apart, parted};

@@ -18,14 +18,14 @@ use Rattle.day.specs.Sound.{day_limits, range, between, within, train_ranges}
 use Rattle.day.specs.declared.Limits.{Limits}
 use Rattle.decimal.specs.Parsed.{got}
 use Rattle.lines.specs.Lines.{row, rows_text}
-use Rattle.dayfile.specs.Reading.{train_checks, read_row, RowRest, read_trains, Rows}
+use Rattle.dayfile.specs.Reading.{train_checks, read_row, RowRest, read_trains}
 use Rattle.dayfile.specs.Writing.{Short}
 use Rattle.dayfile.specs.Sections.{FineTrains, trains_written}
 use Rattle.dates.specs.declared.Date.{Date}
 use Rattle.opening_hours.specs.declared.Calendar.{Calendar}
 use Rattle.opening_hours.specs.declared.Window.{Window}
 use Rattle.opening_hours.specs.Calendar.{used_slots, window, window_of}
-use Rattle.opening_hours.specs.Promised.{window-within}
+use Rattle.opening_hours.proofs.Promised.{window-within}
 
 -- a value in its range
 in_range : (least greatest x : ℕ) → least ≤ x → x ≤ greatest → between (range least greatest) x ≡ true

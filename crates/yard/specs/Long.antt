@@ -18,7 +18,8 @@ use Rattle.std.proofs.Math.Path.{ap}
 use Prim.Native.Nat.{ℕ, ◌≤◌, ◌<◌, zero-le}
 use borrow.Author.Tests.{le-leb}
 use Rattle.model.specs.Model.{Yard, SomeRow}
-use Rattle.model.specs.Moves.{AllMoved, all_moved}
+use Rattle.model.specs.Moves.{AllMoved}
+use Rattle.model.proofs.Moves.{all_moved}
 use Rattle.day.specs.Answer.{gives, code}
 use Rattle.day.specs.AnswerLaws.{Only, only_wider, gives_same}
 use Rattle.day.specs.SoundLaws.{sound_is}
@@ -33,7 +34,7 @@ use Rattle.long_day.specs.LongDay.{long_limits}
 use Rattle.long_value.specs.LongValued.{long_valued_only}
 use Rattle.long_planfile.specs.Size.{long_plan_bytes}
 use Rattle.long_planning.specs.LongPlanning.{LongOutcome, long_planned}
-use Rattle.long_planning.specs.Promised.{long_found_only, long_only}
+use Rattle.long_planning.proofs.Promised.{long_found_only, long_only}
 use Rattle.long_answering.specs.LongAnswering.{long_answer_text, long_answer_writes}
 use Rattle.text_long.specs.TextLong.{long_number_count, long_plan_for}
 use Rattle.text_long.specs.Means.{plans_found, plans_given, text_room}

@@ -78,6 +78,7 @@ begin_returns text costs choices slots size room =
   where
     go : (k : ℕ) (carries : List ℕ) → AmongOrPlanning (10 ∷ []) k carries → Returns OwnBegin k
     go k carries (inl (inl (e, c))) = own_number OwnBegin 10 k e (inl refl)
+    go k carries (inl (inr x)) = elim x [ ]
     go k carries (inr p) = planned_by OwnBegin (inr (inl refl)) (inr (inr refl)) k carries p
 
 -- ---- close
@@ -95,6 +96,7 @@ close_returns text closed row size room =
     go : (k : ℕ) (carries : List ℕ) → Among (8 ∷ 20 ∷ []) k carries → Returns OwnClose k
     go k carries (inl (e, c)) = own_number OwnClose 8 k e (inl refl)
     go k carries (inr (inl (e, c))) = own_number OwnClose 20 k e (inr refl)
+    go k carries (inr (inr x)) = elim x [ ]
 
 -- ---- the changes
 
@@ -117,6 +119,7 @@ module _ (text : List ℕ) (closed : ℕ) (row : List ℕ) (costs choices bytes 
       go k carries (inr (inl (e, c))) = own_number OwnLess 10 k e (inr (inl refl))
       go k carries (inr (inr (inl (e, c)))) = small OwnLess 3 k e (omega arith)
       go k carries (inr (inr (inr (inl (e, c))))) = own_number OwnLess 18 k e (inr (inr refl))
+      go k carries (inr (inr (inr (inr x)))) = elim x [ ]
 
   pub boxes_returns : (to from boxes : ℕ) → let k = code (change_for day_limits text closed row (set_boxes to from boxes) costs choices bytes slots size) in (k ≤ 7) ⊎ ((k ≡ 15) ⊎ ((k ≡ 8) ⊎ ((k ≡ 10) ⊎ (k ≡ 18))))
   unfolding change_for
@@ -131,6 +134,7 @@ module _ (text : List ℕ) (closed : ℕ) (row : List ℕ) (costs choices bytes 
       go k carries (inr (inr (inl (e, c)))) = small OwnLess 3 k e (omega arith)
       go k carries (inr (inr (inr (inl (e, c))))) = own_number OwnLess 18 k e (inr (inr refl))
       go k carries (inr (inr (inr (inr (inl (e, c)))))) = small OwnLess 6 k e (omega arith)
+      go k carries (inr (inr (inr (inr (inr x))))) = elim x [ ]
 
   abbrev OwnAdd : ℕ → Type 0
   OwnAdd k = (k ≡ 8) ⊎ ((k ≡ 10) ⊎ ((k ≡ 19) ⊎ ((k ≡ 9) ⊎ (k ≡ 16))))
@@ -149,4 +153,5 @@ module _ (text : List ℕ) (closed : ℕ) (row : List ℕ) (costs choices bytes 
       go k carries (inl (inr (inr (inl (e, c))))) = small OwnAdd 3 k e (omega arith)
       go k carries (inl (inr (inr (inr (inl (e, c)))))) = own_number OwnAdd 19 k e (inr (inr (inl refl)))
       go k carries (inl (inr (inr (inr (inr (inl (e, c))))))) = small OwnAdd 5 k e (omega arith)
+      go k carries (inl (inr (inr (inr (inr (inr x)))))) = elim x [ ]
       go k carries (inr p) = planned_by OwnAdd (inr (inr (inr (inl refl)))) (inr (inr (inr (inr refl)))) k carries p

@@ -28,9 +28,9 @@ use Rattle.dayfile.specs.Reading.{read_day}
 use Rattle.dayfile.specs.RoundTrip.{read_sound}
 use Rattle.dayfile.specs.Refused.{FileRefusal, Lined, read_lined}
 use Rattle.valuing.specs.Valuing.{valued}
-use Rattle.valuing.specs.Laws.{valued_only, valued-allowed, allowed-valued, valued_boxes}
+use Rattle.valuing.proofs.Laws.{valued_only, valued-allowed, allowed-valued, valued_boxes}
 use Rattle.planning.specs.Planning.{cost_area, choice_area, planned}
-use Rattle.planning.specs.Answers.{areas_suffice_lem, planned_only, from_best, planned_boxes}
+use Rattle.planning.proofs.Answers.{areas_suffice_lem, planned_only, from_best, planned_boxes}
 use Rattle.comparing.specs.Comparing.{Comparison}
 use Rattle.baselines.specs.Baselines.{compared}
 use Rattle.baselines.specs.Savings.{compared_only, compared_boxes}

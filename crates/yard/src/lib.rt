@@ -4,6 +4,8 @@
 // Proved: for every text, row and lent memory each function returns and leaves what the call behind it says, in the papers' numbers
 // (specs/Returns.antt, Moving.antt, Long.antt and Season.antt, for a lent calendar lent_calendar's Header.antt: which they can be, and what they
 // mean); too little room gives refusal 10. Assumes nothing; of a caller only that a pointer has the length that is given beside it.
+#![tactic(auto)]
+
 ghost use Rattle.std.specs.Prelude.{◌≡◌, length};
 ghost use Rattle.day.specs.Answer.{code};
 ghost use Rattle.day.specs.Sound.{day_limits};

@@ -2,16 +2,19 @@
 // refusal (document 01, "The program").
 //
 // Proved: that it runs without a fault. What is printed is `answer_text` of the bytes read, by the contract of answering::answer_text; this
-// file only moves bytes. Assumed: the contracts of the kit's read and write. The run on the sample day (the files stdin and stdout) is
-// part of rt check.
-use libc::{STDIN_FILENO, STDOUT_FILENO};
-use output::Wrote;
+// file only moves bytes; a read or a write that fails ends it with that error. The run on the sample day (the files stdin and stdout) is part of
+// the gate.
+#![tactic(auto)]
 
-fn main() {
-    let mut text = io::buffer();
-    let read = io::read_full(STDIN_FILENO, &mut text);
+use output::Wrote;
+use std::io::{self, Write};
+
+fn main(rt: HostRuntime) -> io::Result<()> {
+    let mut text = [0u8; 4096];
+    let read = streams::read_full(&mut rt.stdin(), &mut text)?;
     let mut reply = [0u8; planfile::PLAN_BYTES];
     if let Wrote::Bytes(count) = answering::answer_text(&text[..read], &mut reply) {
-        io::write_all(STDOUT_FILENO, &reply[..count]);
+        rt.stdout().write_all(&reply[..count])?;
     }
+    Ok(())
 }

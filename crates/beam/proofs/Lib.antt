@@ -1,0 +1,15 @@
+pub mod Completing
+pub mod Discards
+pub mod Gathering
+pub mod HeldWords
+pub mod Listing
+pub mod Loop
+pub mod LowerFigure
+pub mod NothingCut
+pub mod Paths
+pub mod Result
+pub mod RowPlans
+pub mod Shortcuts
+pub mod SlotCosts
+pub mod Successors
+pub mod Words

@@ -1,0 +1,4 @@
+pub mod DateLaws
+pub mod Following
+pub mod Numbering
+pub mod Rules

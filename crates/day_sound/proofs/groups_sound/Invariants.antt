@@ -1,0 +1,13 @@
+-- `day_sound::groups_sound` meets its contract. The loop's invariant: the group of every position passed is sound.
+use Prim.Native.Nat.{◌≤◌, ◌-◌}
+use mathlib.Core.Path.{◌≡◌}
+use mathlib.Core.Bool.{true}
+use Rattle.fold.specs.Fold.{each}
+use Rattle.day.specs.Sound.{group_sound}
+use Rattle.day_sound.proofs.groups_sound.Given as goal
+
+abbrev pub invariant-loop-i : goal.invariant-loop-i
+invariant-loop-i l = (l.i ≤ l.all) × (each l.i (group_sound l.l l.n l.groups) ≡ true)
+
+abbrev pub decreases-loop-i : goal.decreases-loop-i
+decreases-loop-i l = l.all - l.i

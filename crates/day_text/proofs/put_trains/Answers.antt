@@ -1,0 +1,35 @@
+use mathlib.Core.Path.{refl}
+use native.Mathlib.Omega.{arith}
+use borrow.Author.Rules.{rules}
+use Rattle.fold.specs.Listed.{joined}
+use Rattle.decimal.specs.PlaceLaws.{put_text}
+use Rattle.dayfile.specs.Reading.{train_names}
+use Rattle.day_text.specs.Writes.{train_text}
+use Rattle.output.specs.Laws.{put_none, put_more, put_end, names_fit, row_fits}
+use Rattle.day_text.proofs.put_trains.Goals as goal
+
+pub put_bytes-next-requires : goal.put_bytes-next-requires
+unfolding train_names
+put_bytes-next-requires c =
+    let s = c.args in
+    omega (arith, names_fit train_names (joined s.n (train_text s.numbers.now s.first.now s.last.now)))
+
+pub loop-i-init : goal.loop-i-init
+loop-i-init c = (search rules, refl, put_none _)
+
+pub put_three-next-requires : goal.put_three-next-requires
+unfolding train_names
+put_three-next-requires c =
+    let s = c.args in
+    let l = c.loop-i in
+    let f = row_fits train_names (train_text s.numbers.now s.first.now s.last.now) l.i s.n c.loop-i-test.true in
+    rw (c.wide8-in-loop-i.ensures.0, c.wide8.ensures.0, c.wide32.ensures.0) (omega (arith, f, c.requires.n_in_bounds_2, c.put_bytes-next.auto.out, c.put_bytes-next.ensures.next, l.invariant.1, l.invariant.2.next))
+
+pub loop-i-preserved : goal.loop-i-preserved
+loop-i-preserved c =
+    (search rules, search rules, put_more _ _ c.loop-i.invariant.2 (rw (c.wide8-in-loop-i.ensures.0, c.wide8.ensures.0, c.wide32.ensures.0) at c.put_three-next.ensures))
+
+pub returns : goal.returns
+unfolding train_names
+returns c =
+    put_text c.put_bytes-next.ensures (put_end _ _ _ c.loop-i.invariant.0 c.loop-i-test.false c.loop-i.invariant.2)

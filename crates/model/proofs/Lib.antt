@@ -1,0 +1,10 @@
+pub mod BestOf
+pub mod Bridge
+pub mod Cells
+pub mod Fewest
+pub mod Foremost
+pub mod Groups
+pub mod Moves
+pub mod Order
+pub mod Overbooked
+pub mod Rows

@@ -1,0 +1,14 @@
+pub mod Agree
+pub mod Best
+pub mod Chosen
+pub mod Direct
+pub mod Keys
+pub mod Layers
+pub mod Least
+pub mod Offers
+pub mod Rows
+pub mod Schedules
+pub mod Stages
+pub mod Trace
+pub mod Tried
+pub mod Workspace

@@ -1,0 +1,35 @@
+use mathlib.Core.Path.{refl}
+use native.Mathlib.Omega.{arith}
+use borrow.Author.Rules.{rules}
+use Rattle.fold.specs.Listed.{joined}
+use Rattle.decimal.specs.PlaceLaws.{put_text}
+use Rattle.output.specs.Laws.{put_none, put_more, put_end, names_fit, row_fits}
+use Rattle.planfile.specs.PlanText.{slot_names}
+use Rattle.planfile.specs.Laws.{slot_line}
+use Rattle.planfile.proofs.put_slots.Goals as goal
+
+pub put_bytes-next-requires : goal.put_bytes-next-requires
+unfolding slot_names
+put_bytes-next-requires c =
+    let s = c.args in
+    omega (arith, names_fit slot_names (joined s.n (slot_line s.numbers.now s.row.now)))
+
+pub loop-i-init : goal.loop-i-init
+loop-i-init c = (search rules, refl, put_none _)
+
+pub put_two-next-requires : goal.put_two-next-requires
+unfolding slot_names
+put_two-next-requires c =
+    let s = c.args in
+    let l = c.loop-i in
+    let f = row_fits slot_names (slot_line s.numbers.now s.row.now) l.i s.n c.loop-i-test.true in
+    rw (c.wide8.ensures.0, c.wide32.ensures.0) (omega (arith, f, c.requires.n_in_bounds_2, c.put_bytes-next.auto.out, c.put_bytes-next.ensures.next, l.invariant.1, l.invariant.2.next))
+
+pub loop-i-preserved : goal.loop-i-preserved
+loop-i-preserved c =
+    (search rules, search rules, put_more _ _ c.loop-i.invariant.2 (rw (c.wide8.ensures.0, c.wide32.ensures.0) at c.put_two-next.ensures))
+
+pub returns : goal.returns
+unfolding slot_names
+returns c =
+    put_text c.put_bytes-next.ensures (put_end _ _ _ c.loop-i.invariant.0 c.loop-i-test.false c.loop-i.invariant.2)

@@ -1,0 +1,4 @@
+pub mod Answers
+pub mod Demand
+pub mod Laws
+pub mod Shares

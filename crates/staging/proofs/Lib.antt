@@ -1,0 +1,9 @@
+pub mod AllowedRows
+pub mod BestPlan
+pub mod CostBySlot
+pub mod FromTables
+pub mod KeyBySlot
+pub mod Reachable
+pub mod Serving
+pub mod SlotInRow
+pub mod Solution

@@ -1,0 +1,35 @@
+-- `text_long::plan_long_text` meets its contract. The room, then the two cases of reading.
+use Rattle.std.specs.Prelude.{◌≡◌, true, leb, length}
+use Rattle.std.proofs.Math.Path.{sym, ap}
+use Rattle.std.proofs.Common.{◌∙◌}
+use borrow.Author.Tests.{le-leb, lt-leb}
+use Rattle.day.specs.Answer.{gives, refusal, judged}
+use Rattle.dayfile.specs.Reading.{read_day}
+use Rattle.long_day.specs.LongDay.{long_limits, long_yard}
+use Rattle.text_long.specs.TextLong.{long_number_count}
+use Rattle.text_long.specs.Laws.{plans_nothing, plans_refused, plans_day}
+use Rattle.text_long.proofs.plan_long_text.Goals as goal
+
+pub returns-then-numbers-lt6 : goal.returns-then-numbers-lt6
+returns-then-numbers-lt6 c =
+    let a = c.args in
+    let p = plans_nothing a.text.now a.width a.row.now a.numbers.now (lt-leb long_number_count _ c.if-numbers-lt6.true) in
+    record { value = p.says; numbers_after = p.numbers_are_lem; row_after = p.row_is; trains_after = p.written }
+
+pub returns-in-Accepted : goal.returns-in-Accepted
+returns-in-Accepted c =
+    let a = c.args in
+    let room : leb long_number_count (length a.numbers.now) ≡ true = le-leb long_number_count _ c.if-numbers-lt6.false in
+    let d = c.read_long_day-reading in
+    let accepted : read_day long_limits a.text.now ≡ gives (long_yard d.result.day) = sym d.ensures.0 ∙ ap (λ v. judged v (long_yard d.result.day)) c.in-Accepted.is in
+    let p = plans_day a.text.now a.width a.row.now a.numbers.now (long_yard d.result.day) room accepted c.plan_long_day.ensures in
+    record { value = p.says; numbers_after = p.numbers_are_lem; row_after = p.row_is; trains_after = p.written }
+
+pub returns-in-Refused : goal.returns-in-Refused
+returns-in-Refused c =
+    let a = c.args in
+    let room : leb long_number_count (length a.numbers.now) ≡ true = le-leb long_number_count _ c.if-numbers-lt6.false in
+    let d = c.read_long_day-reading in
+    let refused : read_day long_limits a.text.now ≡ refusal c.in-Refused.refusal = sym d.ensures.0 ∙ ap (λ v. judged v (long_yard d.result.day)) c.in-Refused.is in
+    let p = plans_refused a.text.now a.width a.row.now a.numbers.now c.in-Refused.refusal room refused c.tell_long.ensures in
+    record { value = p.says; numbers_after = p.numbers_are_lem; row_after = p.row_is; trains_after = p.written }
