@@ -1,29 +1,51 @@
 -- Each way out of a change comes to what it makes of the account.
 -- Assumes nothing.
-use Rattle.std.specs.Prelude.{◌≡◌, true, false, ◌&&◌, List, [], ◌∷◌, ℕ, suc, ◌-◌, ◌≤◌, ◌<◌, leb, get_or}
-use Rattle.std.proofs.Common.{sym, ◌∙◌}
+use Rattle.std.specs.Prelude.{◌≡◌, refl, Bool, true, false, cond, ◌&&◌, List, [], ◌∷◌, ℕ, suc, ◌-◌, ◌≤◌, ◌<◌, leb, get_or, Result, Ok, Err}
+use Rattle.std.proofs.Common.{sym, ◌∙◌, arith}
 use Rattle.std.proofs.Math.Path.{ap}
 use Rattle.std.proofs.Math.Dec.{ltb, eqb}
 use borrow.Author.Tests.{eq-eqb, ne_eqb, le-ltb, lt-ltb}
 use Rattle.fold.specs.Fold.{lowest}
+use Rattle.fold.specs.Test.{of_true}
 use Rattle.model.specs.Model.{Yard, slot_of}
 use Rattle.day.specs.Answer.{gives, refuses}
 use Rattle.day.specs.Sound.{within, train_ranges}
 use Rattle.day.specs.declared.Limits.{Limits}
 use Rattle.rolling.specs.Rolling.{Account, place_of, is_listed, moved, source_without, source_with, without_train, with_train, with_boxes, cancel, add, set_boxes, number_in}
-use Rattle.account_edits.specs.Accounts.{made}
+use Rattle.rolling.specs.Places.{listed_there, place_le}
+use Rattle.account_edits.specs.Accounts.{placed, made}
 
-pub place_is : (y : Yard) (x : ℕ) {p : ℕ} → p ≡ lowest y.trains (λ i. leb x (get_or y.numbers i 0)) → p ≡ place_of y x
-unfolding place_of
-place_is y x e = e
+-- ---- where a number stands
 
-pub listed_is : (y : Yard) (x p : ℕ) → p ≡ place_of y x → p < y.trains → eqb (get_or y.numbers p 0) x ≡ is_listed y x
-unfolding is_listed
-listed_is y x p e h = ap (λ b. b && eqb (get_or y.numbers p 0) x) (sym (lt-ltb p y.trains h)) ∙ ap (λ p. ltb p y.trains && eqb (get_or y.numbers p 0) x) e
+module _ (y : Yard) (x p : ℕ) where
+  module _ (e : p ≡ lowest y.trains (λ i. leb x (get_or y.numbers i 0))) where
+    pub placed_there : p < y.trains → get_or y.numbers p 0 ≡ x → Ok p ≡ placed y x
+    unfolding placed is_listed place_of
+    placed_there h n = rw (← e, lt-ltb p y.trains h, eq-eqb (get_or y.numbers p 0) x n)
 
-pub listed_past : (y : Yard) (x p : ℕ) → p ≡ place_of y x → y.trains ≤ p → false ≡ is_listed y x
-unfolding is_listed
-listed_past y x p e h = ap (λ b. b && eqb (get_or y.numbers p 0) x) (sym (le-ltb p y.trains h)) ∙ ap (λ p. ltb p y.trains && eqb (get_or y.numbers p 0) x) e
+    pub placed_other : p < y.trains → (get_or y.numbers p 0 ≡ x → ⊥) → Err p ≡ placed y x
+    unfolding placed is_listed place_of
+    placed_other h n = rw (← e, lt-ltb p y.trains h, ne_eqb (get_or y.numbers p 0) x n)
+
+    pub placed_past : y.trains ≤ p → Err p ≡ placed y x
+    unfolding placed is_listed place_of
+    placed_past h = rw (← e, le-ltb p y.trains h)
+
+  pub placed_ok : Ok p ≡ placed y x → (is_listed y x ≡ true) × (p ≡ place_of y x) × (p < y.trains)
+  unfolding placed
+  placed_ok e = go (is_listed y x) refl e
+    where
+      go : (b : Bool) → is_listed y x ≡ b → ◌≡◌ {A = Result ℕ ℕ} (Ok p) (cond b (Ok (place_of y x)) (Err (place_of y x))) → (is_listed y x ≡ true) × (p ≡ place_of y x) × (p < y.trains)
+      go true q e = let same : p ≡ place_of y x = cc in (q, same, omega (arith, same, (listed_there y x (of_true q)).0))
+      go false q e = absurd (let z : ◌≡◌ {A = ℕ} 0 1 = cc in omega arith)
+
+  pub placed_err : Err p ≡ placed y x → (is_listed y x ≡ false) × (p ≡ place_of y x) × (p ≤ y.trains)
+  unfolding placed
+  placed_err e = go (is_listed y x) refl e
+    where
+      go : (b : Bool) → is_listed y x ≡ b → ◌≡◌ {A = Result ℕ ℕ} (Err p) (cond b (Ok (place_of y x)) (Err (place_of y x))) → (is_listed y x ≡ false) × (p ≡ place_of y x) × (p ≤ y.trains)
+      go true q e = absurd (let z : ◌≡◌ {A = ℕ} 0 1 = cc in omega arith)
+      go false q e = let same : p ≡ place_of y x = cc in (q, same, omega (arith, same, place_le y x))
 
 -- ---- cancel
 
@@ -93,19 +115,24 @@ module _ (l : Limits) (a : Account) (to from boxes : ℕ) where
   boxes_fields e = rw e
 
   module _ (e : (number_in l to && number_in l from && leb boxes l.boxes) ≡ true) where
-    pub boxes_unlisted : (is_listed a.day to && is_listed a.day from) ≡ false → refuses 18 (0 ∷ []) ≡ made l a (set_boxes to from boxes)
+    pub boxes_no_to : is_listed a.day to ≡ false → refuses 18 (0 ∷ []) ≡ made l a (set_boxes to from boxes)
     unfolding made
-    boxes_unlisted f = rw (e, f)
+    boxes_no_to f = rw (e, f)
 
-    module _ (f : (is_listed a.day to && is_listed a.day from) ≡ true) where
-      pub boxes_same : to ≡ from → refuses 6 (0 ∷ []) ≡ made l a (set_boxes to from boxes)
+    module _ (f : is_listed a.day to ≡ true) where
+      pub boxes_no_from : is_listed a.day from ≡ false → refuses 18 (0 ∷ []) ≡ made l a (set_boxes to from boxes)
       unfolding made
-      boxes_same q = rw (e, f, eq-eqb to from q)
+      boxes_no_from g = rw (e, f, g)
 
-      pub boxes_made : {y : Yard} (p q : ℕ) → p ≡ place_of a.day to → q ≡ place_of a.day from → (to ≡ from → ⊥) → y ≡ with_boxes p q boxes a.day
-          → gives (record { day = y; closed = a.closed; served = a.served }) ≡ made l a (set_boxes to from boxes)
-      unfolding made
-      boxes_made {y} p q g h n d =
-          let days : y ≡ with_boxes (place_of a.day to) (place_of a.day from) boxes a.day =
-          d ∙ ap (λ p. with_boxes p q boxes a.day) g ∙ ap (λ q. with_boxes (place_of a.day to) q boxes a.day) h in
-          rw (e, f, ne_eqb to from n) (λ i. gives (record { day = days i; closed = a.closed; served = a.served }))
+      module _ (g : is_listed a.day from ≡ true) where
+        pub boxes_same : to ≡ from → refuses 6 (0 ∷ []) ≡ made l a (set_boxes to from boxes)
+        unfolding made
+        boxes_same q = rw (e, f, g, eq-eqb to from q)
+
+        pub boxes_made : {y : Yard} (p q : ℕ) → p ≡ place_of a.day to → q ≡ place_of a.day from → (to ≡ from → ⊥) → y ≡ with_boxes p q boxes a.day
+            → gives (record { day = y; closed = a.closed; served = a.served }) ≡ made l a (set_boxes to from boxes)
+        unfolding made
+        boxes_made {y} p q i j n d =
+            let days : y ≡ with_boxes (place_of a.day to) (place_of a.day from) boxes a.day =
+            d ∙ ap (λ p. with_boxes p q boxes a.day) i ∙ ap (λ q. with_boxes (place_of a.day to) q boxes a.day) j in
+            rw (e, f, g, ne_eqb to from n) (λ i. gives (record { day = days i; closed = a.closed; served = a.served }))

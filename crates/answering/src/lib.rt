@@ -13,9 +13,7 @@ ghost use Rattle.output.specs.Output.{answer};
 ghost use Rattle.planfile.specs.Size.{plan_bytes};
 ghost use Rattle.answering.specs.Answering.{day_reply, answer_text, answer_writes, answer_leaves};
 
-use day::{Day, Verdict};
-use output::Wrote;
-use planning::Planned;
+use day::{Day, Refusal};
 
 // Plans a sound day and puts the reply at the front: the plan file of the best row, or the two lines of 9 or 16. Gives its length. The areas
 // are local; they suffice for every sound day.
@@ -23,13 +21,12 @@ fn put_best(out: &mut [u8], day: Day) -> usize
     requires { T (sound day_limits (yard day)) × (plan_bytes ≤ length out.old) }
     ensures { Put out.old out.new 0 result (day_reply (yard day) (best_of (yard day))) × (result ≤ plan_bytes) }
 {
-    let numbers = day.numbers;
     let mut cost = [0u64; 4096];
     let mut choice = [0u16; 32768];
     let mut row = [0u8; 12];
     match planning::plan(day, &mut cost, &mut choice, &mut row) {
-        Planned::Refused(refusal) => refusal_text::put_refusal(out, refusal),
-        Planned::Plan(value) => planfile::put_plan(out, &numbers, &row, day.trains, value),
+        Ok(value) => planfile::put_plan(out, &day.numbers, &row, day.trains, value),
+        Err(refusal) => refusal_text::put_refusal(out, refusal),
     }
 }
 
@@ -38,17 +35,15 @@ fn put_answer(text: &[u8], out: &mut [u8]) -> usize
     requires { plan_bytes ≤ length out.old }
     ensures { Put out.old out.new 0 result (answer_text day_limits text.now) × (result ≤ plan_bytes) }
 {
-    let reading = dayread::read_day(text);
-    let verdict = reading.verdict;
-    match verdict {
-        Verdict::Refused(refusal) => refusal_text::put_refusal(out, refusal),
-        Verdict::Accepted => put_best(out, reading.day),
+    match dayread::read_record(text) {
+        Ok(day) => put_best(out, day),
+        Err(refusal) => refusal_text::put_refusal(out, refusal),
     }
 }
 
 // Answers a text. The output is lent: its first bytes become the answer, the others stay; 10 where it is too short, and then no byte
 // changes.
-pub fn answer_text(text: &[u8], out: &mut [u8]) -> Wrote
+pub fn answer_text(text: &[u8], out: &mut [u8]) -> Result<usize, Refusal>
     ensures result_value { answer result ≡ answer_writes day_limits text.now (length out.old) }
     ensures out_after { out.new ≡ answer_leaves day_limits text.now out.old }
     ensures text_len_bound { length (answer_text day_limits text.now) ≤ plan_bytes }

@@ -40,8 +40,8 @@ fn bar_parted(price: &mut [u32], size: usize, members: usize)
     requires { (size ≤ 4096) × (size ≤ length price.old) }
     ensures { Filled (λ s. cond (undivided members s) (at price.old s) barred) size price.old price.new }
 {
-    for s in 0..size {
-        price[s] = price_whole(price[s], s, members);
+    for (s, word) in price[..size].iter_mut().enumerate() {
+        *word = price_whole(*word, s, members);
     }
 }
 
@@ -50,8 +50,8 @@ pub fn bar_groups(price: &mut [u32], groups: &[u8], n: usize, size: usize)
     requires { (n ≤ 12) × ((n ≤ length groups.now) × ((size ≡ 2 ^ n) × ((size ≤ 4096) × (size ≤ length price.old)))) }
     ensures { Filled (λ s. cond (together n groups.now s) (at price.old s) barred) size price.old price.new }
 {
-    for i in 0..n {
-        if groups[i] != 0 {
+    for (i, group) in groups[..n].iter().enumerate() {
+        if *group != 0 {
             bar_parted(price, size, members_of(groups, n, i));
         }
     }

@@ -16,8 +16,9 @@ ghost use Rattle.baselines.specs.Baselines.{row_by, compared, open_costs, open_c
 ghost use Rattle.comparing.specs.Comparing.{Says};
 
 use comparing::Baseline;
-use day::Day;
-use planning::Planned;
+use counting::Value;
+use day::{Day, Refusal};
+use procedures::LentDay;
 
 // The procedures that planning is compared with.
 #[derive(Clone, Copy)]
@@ -27,7 +28,7 @@ pub enum Procedure {
 }
 
 // Plans a day for its cost alone: the row is local, and long enough for every sound day.
-pub fn plan_cost(day: Day, cost: &mut [u64], choice: &mut [u16]) -> Planned
+pub fn plan_cost(day: Day, cost: &mut [u64], choice: &mut [u16]) -> Result<Value, Refusal>
     ensures result_value { plan_answer result ≡ planned day_limits (yard day) (length cost.old) (length choice.old) day.trains }
     ensures stays { Stays (open_costs day_limits (yard day) (length cost.old) (length choice.old)) cost.old cost.new }
     ensures stays_2 { Stays (open_choices day_limits (yard day) (length cost.old) (length choice.old)) choice.old choice.new }
@@ -41,28 +42,20 @@ fn fill_row(procedure: Procedure, day: Day, row: &mut [u8])
     requires { T (sound day_limits (yard day)) × (row.old ≡ replicate day.trains 0) }
     ensures { row.new ≡ row_by procedure (yard day) }
 {
-    let boxes = day.boxes;
-    let first = day.first;
-    let last = day.last;
-    let n = day.trains;
+    let lent = LentDay {
+        trains: day.trains,
+        tracks: day.tracks,
+        slots: day.slots,
+        revisit: day.revisit,
+        split: day.split,
+        first: &day.first,
+        last: &day.last,
+        width: 12,
+        boxes: &day.boxes,
+    };
     match procedure {
-        Procedure::FirstCome => {
-            procedures::come_first(&first, &last, n, day.tracks, day.slots, row);
-        }
-        Procedure::Myopic => {
-            procedures::serve_myopic(
-                &boxes,
-                12,
-                &first,
-                &last,
-                row,
-                n,
-                day.tracks,
-                day.slots,
-                day.revisit,
-                day.split,
-            );
-        }
+        Procedure::FirstCome => procedures::come_first(&lent, row),
+        Procedure::Myopic => procedures::serve_myopic(&lent, row),
     }
 }
 
@@ -85,8 +78,8 @@ pub fn measure(procedure: Procedure, day: Day, cost: &mut [u64], choice: &mut [u
     ensures stays_2 { Stays (open_choices day_limits (yard day) (length cost.old) (length choice.old)) choice.old choice.new }
 {
     match plan_cost(day, cost, choice) {
-        Planned::Plan(best) => compare_with(procedure, day, best.cost),
-        Planned::Refused(refusal) => comparing::refused(refusal),
+        Ok(best) => compare_with(procedure, day, best.cost),
+        Err(refusal) => comparing::refused(refusal),
     }
 }
 

@@ -1,11 +1,12 @@
--- The plan that serves nobody, in words: the one kept before the first slot.
+-- The plan that serves nobody: the one kept before the first slot.
 -- Assumes nothing.
-use Rattle.std.specs.Prelude.{◌≡◌, refl, Bool, true, false, cond, ℕ, zero, suc, ◌+◌, ◌-◌, ◌*◌, ◌≤◌, ◌<◌, T, eqb, length, get_or}
-use Rattle.std.proofs.Common.{sym, ◌∙◌, subst, arith}
+use Rattle.std.specs.Prelude.{◌≡◌, ◌≢◌, refl, Bool, true, false, cond, ℕ, zero, suc, ◌-◌, ◌≤◌, ◌<◌, T, eqb, length, get_or}
+use Rattle.std.proofs.Common.{sym, ◌∙◌, subst, ⊎_elim, arith}
 use Rattle.std.proofs.Math.Path.{ap}
 use mathlib.Core.List.{List, [], ◌∷◌}
 use Rattle.std.proofs.Math.ListN.{take}
 use Rattle.std.proofs.Math.Seq.{take_all}
+use Rattle.fold.specs.Counting.{same_or}
 use Rattle.fold.specs.Test.{is_false}
 use Rattle.sets.specs.Rest.{full}
 use Rattle.model.specs.Model.{Yard}
@@ -15,34 +16,56 @@ use Rattle.beam.specs.Beam.{rest, cost_so_far, revisits_so_far, slots_so_far, se
 use Rattle.beam.proofs.RowPlans.{start_kept}
 use Rattle.beam.specs.Words.{word_of}
 use Rattle.beam.specs.HeldWords.{held_word, Holds}
+use Rattle.held_plans.specs.declared.Held.{Held}
+use Rattle.held_plans.specs.declared.HeldPlan.{HeldPlan}
+use Rattle.held_plans.specs.Words.{word, slot_word, plan_at, words}
+use Rattle.gathering.specs.Each.{Each}
 use Rattle.gathering.specs.Gathering.{Words}
-use Rattle.candidates.specs.Words.{most}
+use Rattle.candidates.specs.Words.{LowPlan}
 use Rattle.slot_serving.specs.Serving.{HoldsKept}
 
--- the words: no cost, no revisits, no slots; no train in a slot, and all remain
-pub record StartWords (all : ℕ) (a : List ℕ) : Type 0 where
-  pub sums : (c : ℕ) → c < 3 → get_or a c 0 ≡ 0
-  pub sets : (c : ℕ) → 3 ≤ c → c < 16 → get_or a c 0 ≡ all
+-- no cost, no revisits, no slots; no train in a slot, and all remain
+pub record StartPlan (all : ℕ) (w : HeldPlan) : Type 0 where
+  pub costs : w.cost ≡ 0
+  pub revisits : w.revisits ≡ 0
+  pub slots : w.slot_sum ≡ 0
+  pub sets : (j : ℕ) → j < 12 → get_or w.unserved j 0 ≡ all
+  pub remaining : w.rest ≡ all
 
-start_words : (y : Yard) (a : List ℕ) → StartWords (full y.trains) a → Words y [] a
+-- what is held before the first slot
+pub record Starts (all : ℕ) (h : Held) : Type 0 where
+  pub one : h.count ≡ 1
+  pub first : StartPlan all (plan_at h.plans 0)
+
+start_words : (y : Yard) (w : HeldPlan) → StartPlan (full y.trains) w → Words y [] w
 unfolding held_word word_of rest cost_so_far revisits_so_far slots_so_far set_in
-start_words y a s zero m = s.sums 0 (omega arith)
-start_words y a s (suc zero) m = s.sums 1 (omega arith)
-start_words y a s (suc (suc zero)) m = s.sums 2 (omega arith)
-start_words y a s (suc (suc (suc j))) m = s.sets (suc (suc (suc j))) (omega arith) m ∙ sym (same (eqb (suc (suc (suc j))) 15))
+start_words y w s zero m = s.costs
+start_words y w s (suc zero) m = s.revisits
+start_words y w s (suc (suc zero)) m = s.slots
+start_words y w s (suc (suc (suc j))) m = word_is ∙ sym (same (eqb (suc (suc (suc j))) 15))
   where
     same : (b : Bool) → cond b (full y.trains) (full y.trains - 0) ≡ full y.trains
     same true = refl
     same false = omega arith
 
-pub start_low : (n : ℕ) (a : List ℕ) → StartWords (full n) a → (k c : ℕ) → k < 1 → c < 16 → get_or a (k * 16 + c) 0 ≤ most n 0 c
-start_low n a s k c l m = let here : k * 16 + c ≡ c = omega arith in subst (λ v. v ≤ most n 0 c) (sym (ap (λ i. get_or a i 0) here)) (at c m)
-  where
-    at : (c : ℕ) → c < 16 → get_or a c 0 ≤ most n 0 c
-    at zero m = omega (arith, s.sums 0 (omega arith))
-    at (suc zero) m = omega (arith, s.sums 1 (omega arith))
-    at (suc (suc zero)) m = omega (arith, s.sums 2 (omega arith))
-    at (suc (suc (suc j))) m = omega (arith, s.sets (suc (suc (suc j))) (omega arith) m)
+    word_is : word w (suc (suc (suc j))) ≡ full y.trains
+    word_is =
+        ⊎_elim (λ (last : j ≡ 12). subst (λ k. word w (suc (suc (suc k))) ≡ full y.trains) (sym last) s.remaining)
+        (λ (slot : j ≢ 12). slot_word w j (omega arith) ∙ s.sets j (omega arith)) (same_or j 12)
+
+low_plan : (n : ℕ) (w : HeldPlan) → StartPlan (full n) w → LowPlan n 0 w
+low_plan n w s = record {
+  low_cost = omega (arith, s.costs);
+  few_revisits = omega (arith, s.revisits);
+  low_sum = omega (arith, s.slots);
+  sets = λ j l. omega (arith, s.sets j l);
+  remaining = omega (arith, s.remaining);
+}
+
+pub start_low : (n : ℕ) (h : Held) → Starts (full n) h → Each (LowPlan n 0) h.plans h.count
+start_low n h s k l =
+    let first : 0 ≡ k = omega (arith, s.one) in
+    subst (λ i. LowPlan n 0 (plan_at h.plans i)) first (low_plan n (plan_at h.plans 0) s.first)
 
 module _ (y : Yard) (windows : Windows y) (spacious : Spacious y) (width : ℕ) (wide : 1 ≤ width) where
   pub start_keeps : T (discarded y 0 (full y.trains)) → ⊥
@@ -52,12 +75,12 @@ module _ (y : Yard) (windows : Windows y) (spacious : Spacious y) (width : ℕ) 
   unfolding kept remained
   kept_start = ap (λ b. take width (cond b [] ([] ∷ []))) (is_false (discarded y 0 (full y.trains)) start_keeps) ∙ take_all width ([] ∷ []) wide
 
-  pub start_holds : (a : List ℕ) → StartWords (full y.trains) a → HoldsKept y width 0 a 1
-  start_holds a s = record {
-    many = sym (ap length kept_start);
-    holds = subst (Holds y a) (sym kept_start) only;
+  pub start_holds : (h : Held) → Starts (full y.trains) h → HoldsKept y width 0 h
+  start_holds h s = record {
+    many = s.one ∙ sym (ap length kept_start);
+    holds = subst (Holds y (words h.plans)) (sym kept_start) only;
   }
     where
-      only : Holds y a ([] ∷ [])
-      only zero c l m = let here : 0 * 16 + c ≡ c = omega arith in ap (λ i. get_or a i 0) here ∙ start_words y a s c m
+      only : Holds y (words h.plans) ([] ∷ [])
+      only zero c l m = start_words y (plan_at h.plans 0) s.first c m
       only (suc k) c l m = absurd (omega arith)

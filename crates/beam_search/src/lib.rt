@@ -5,86 +5,82 @@
 // in its slots and that overbooks no interval. Over slices. Assumes nothing.
 #![tactic(auto)]
 
-ghost use Rattle.std.specs.Prelude.{◌≡◌, ℕ, ◌+◌, ◌*◌, ◌≤◌, ◌<◌, length};
-ghost use Rattle.fold.specs.Fold.{bit};
+ghost use Rattle.std.specs.Prelude.{◌≤◌, length};
 ghost use Rattle.set_serving.specs.Serving.{SearchTables};
-ghost use Rattle.beam_search.specs.Start.{StartWords};
+ghost use Rattle.beam_search.specs.Start.{Starts};
 ghost use Rattle.beam_search.specs.Slots.{SearchFinds};
 ghost use Rattle.beam_search.specs.Found.{Sized, Searched};
 
-use candidates::Sizes;
+use beam_tables::DayTrains;
+use candidates::{DayTables, Sizes};
+use held_plans::{Held, HeldPlan};
 
-// The words of the first plan kept after the last slot, and the number of slots after which more plans remained than are kept.
+// The first plan kept after the last slot, and the number of slots after which more plans remained than are kept.
 #[derive(Clone, Copy)]
 struct Found {
-    plan: [u64; 16],
+    plan: HeldPlan,
     full: usize,
 }
 
-// The array before the first slot: at its front the plan that serves nobody.
-fn start_plan(all: u64) -> [u64; 1024]
-    ensures { StartWords all result }
+// What is held before the first slot: the plan that serves nobody.
+fn start(all: u64) -> Held
+    ensures { Starts all result }
 {
-    let mut a = [0u64; 1024];
-    for c in 3..16usize {
-        a[c] = all;
+    let plan = HeldPlan {
+        cost: 0,
+        revisits: 0,
+        slot_sum: 0,
+        unserved: [all; 12],
+        rest: all,
+    };
+    Held {
+        plans: [plan; 64],
+        count: 1,
+        dropped: false,
     }
-    a
 }
 
-fn one_if(b: bool) -> usize
-    ensures { (result ≡ bit b) × (result ≤ 1) }
+// Slot after slot, from the plans kept to the next ones.
+fn search(first: &[u8], last: &[u8], day: &DayTables) -> Found
+    requires { SearchTables day.now × (day.now.boxes.trains ≤ length first.now) × (day.now.boxes.trains ≤ length last.now) }
+    ensures { SearchFinds day.now first.now last.now result.plan result.full }
 {
-    if b { 1 } else { 0 }
-}
-
-// Slot after slot, from the array of the plans kept to that of the next ones.
-fn search(
-    first: &[u8],
-    last: &[u8],
-    boxes: &[u8],
-    suppliers: &[u64],
-    incoming: &[u64],
-    ends: &[u64],
-    sizes: Sizes,
-) -> Found
-    requires { SearchTables sizes boxes.now suppliers.now incoming.now ends.now × (sizes.trains ≤ length first.now) × (sizes.trains ≤ length last.now) }
-    ensures { SearchFinds sizes first.now last.now boxes.now ends.now result.plan result.full × (length result.plan ≡ 16) }
-{
-    let mut kept = start_plan(sizes.all);
-    let mut next = [0u64; 1024];
-    let mut count: usize = 1;
+    let mut kept = start(day.sizes.all);
+    let mut next = kept;
     let mut full_slots: usize = 0;
-    for j in 0..sizes.slots {
-        let ready = tables::open_in(first, last, sizes.trains, (j + 1) as u8) as u64;
-        let held = slot_serving::serve_slot(
-            &mut next, &kept, count, boxes, suppliers, incoming, ends, sizes, j, ready,
-        );
-        count = held.count;
-        full_slots += one_if(held.dropped);
+    for j in 0..day.sizes.slots {
+        let ready = tables::open_in(first, last, day.boxes.trains, (j + 1) as u8) as u64;
+        slot_serving::serve_slot(&mut next, &kept, day, j, ready);
+        full_slots += usize::from(next.dropped);
         kept = next;
     }
-    let plan = candidates::words_of(&kept, 0);
     Found {
-        plan: plan,
+        plan: kept.plans[0],
         full: full_slots,
     }
 }
 
 // The row that the beam search finds, in the first words of `row`; the words behind stay as they were. It answers the number of slots after which
 // more partial plans remained than are kept.
-pub fn beam_search(row: &mut [u8], first: &[u8], last: &[u8], boxes: &[u8], sizes: Sizes) -> usize
-    requires { Sized sizes first.now last.now boxes.now row.old }
-    ensures { Searched sizes first.now last.now boxes.now row.old row.new result }
+pub fn beam_search(row: &mut [u8], day: &DayTrains, sizes: Sizes) -> usize
+    requires { Sized sizes day.now row.old }
+    ensures { Searched sizes day.now row.old row.new result }
 {
+    let boxes = day.boxes;
     let mut suppliers = [0u64; 36];
-    beam_tables::fill_suppliers(&mut suppliers, boxes, sizes.columns, sizes.trains);
+    beam_tables::fill_suppliers(&mut suppliers, &boxes);
     let mut incoming = [0u64; 36];
-    beam_tables::fill_incoming(&mut incoming, boxes, sizes.columns, sizes.trains);
+    beam_tables::fill_incoming(&mut incoming, &boxes);
     let mut ends = [0u64; 13];
-    beam_tables::fill_ends(&mut ends, last, sizes.trains, sizes.slots);
-    let found = search(first, last, boxes, &suppliers, &incoming, &ends, sizes);
-    let plan = found.plan;
-    plan_rows::read_row(row, &plan, sizes.trains, sizes.slots);
+    beam_tables::fill_ends(&mut ends, day.last, boxes.trains, sizes.slots);
+    let tables = DayTables {
+        sizes,
+        boxes,
+        suppliers: &suppliers,
+        incoming: &incoming,
+        ends: &ends,
+    };
+    let found = search(day.first, day.last, &tables);
+    plan_rows::read_row(row, &found.plan, boxes.trains, sizes.slots);
     found.full
 }

@@ -5,32 +5,34 @@ use Rattle.std.specs.Int.Bits.{bit_and}
 use Rattle.std.specs.Int.Count.{ones}
 use Rattle.fold.specs.Fold.{sum}
 use Rattle.sets.specs.Rest.{full}
-use Rattle.model.specs.Model.{Yard, cell}
+use Rattle.model.specs.Model.{Yard}
 use Rattle.optimum.specs.Workspace.{at}
 use Rattle.staging.specs.Tables.{needing, from_outside}
 use Rattle.beam.specs.SlotCosts.{suppliers_of}
-use Rattle.beam_tables.specs.Given.{Given}
+use Rattle.beam_tables.specs.declared.Boxes.{Boxes}
+use Rattle.beam_tables.specs.Given.{AreGiven, received}
 use Rattle.candidates.specs.declared.Sizes.{Sizes}
+use Rattle.candidates.specs.declared.DayTables.{DayTables}
 
-pub record Tables (z : Sizes) (boxes suppliers incoming : List ℕ) : Type 0 where
-  pub given : Given z.trains z.columns boxes
-  pub all_is : z.all ≡ full z.trains
-  pub few_tracks : z.tracks ≤ 4
-  pub few_slots : z.slots ≤ 12
-  pub light_revisit : z.revisit ≤ 65535
-  pub light_split : z.split ≤ 65535
-  pub suppliers_long : z.trains ≤ length suppliers
-  pub incoming_long : z.trains ≤ length incoming
-  pub suppliers_is : (i : ℕ) → i < z.trains → at suppliers i ≡ suppliers_of z.trains (cell z.columns boxes) i
-  pub incoming_is : (i : ℕ) → i < z.trains → at incoming i ≡ sum z.trains (cell z.columns boxes i)
-  pub incoming_low : (i : ℕ) → i < z.trains → at incoming i ≤ 9180
+pub record Tables (t : DayTables) : Type 0 where
+  pub given : AreGiven t.boxes
+  pub all_is : t.sizes.all ≡ full t.boxes.trains
+  pub few_tracks : t.sizes.tracks ≤ 4
+  pub few_slots : t.sizes.slots ≤ 12
+  pub light_revisit : t.sizes.revisit ≤ 65535
+  pub light_split : t.sizes.split ≤ 65535
+  pub suppliers_long : t.boxes.trains ≤ length t.suppliers.now
+  pub incoming_long : t.boxes.trains ≤ length t.incoming.now
+  pub suppliers_is : (i : ℕ) → i < t.boxes.trains → at t.suppliers.now i ≡ suppliers_of t.boxes.trains (received t.boxes) i
+  pub incoming_is : (i : ℕ) → i < t.boxes.trains → at t.incoming.now i ≡ sum t.boxes.trains (received t.boxes i)
+  pub incoming_low : (i : ℕ) → i < t.boxes.trains → at t.incoming.now i ≤ 9180
 
 -- the trains of s with a supplier in what it leaves of r; and what s costs (10)
-abbrev pub late_of : Sizes → List ℕ → ℕ → ℕ → ℕ
-late_of z boxes r s = ones (bit_and s (needing z.trains (cell z.columns boxes) (r - s)))
+abbrev pub late_of : DayTables → ℕ → ℕ → ℕ
+late_of t r s = ones (bit_and s (needing t.boxes.trains (received t.boxes) (r - s)))
 
-abbrev pub price_of : Sizes → List ℕ → ℕ → ℕ → ℕ
-price_of z boxes r s = z.revisit * late_of z boxes r s + z.split * from_outside z.trains (cell z.columns boxes) s
+abbrev pub price_of : DayTables → ℕ → ℕ → ℕ
+price_of t r s = t.sizes.revisit * late_of t r s + t.sizes.split * from_outside t.boxes.trains (received t.boxes) s
 
 -- ---- the day
 
@@ -41,9 +43,9 @@ pub record Trains : Type 0 where
   pub first : List ℕ
   pub last : List ℕ
 
-abbrev pub yard_of : Sizes → Trains → List ℕ → Yard
+abbrev pub yard_of : Sizes → Trains → Boxes → Yard
 yard_of z d boxes = record {
-  trains = z.trains;
+  trains = boxes.trains;
   tracks = z.tracks;
   slots = z.slots;
   revisit = z.revisit;
@@ -52,6 +54,9 @@ yard_of z d boxes = record {
   first = d.first;
   last = d.last;
   groups = d.groups;
-  width = z.columns;
-  boxes = boxes;
+  width = boxes.width;
+  boxes = boxes.table.now;
 }
+
+abbrev pub yard_in : DayTables → Trains → Yard
+yard_in t d = yard_of t.sizes d t.boxes

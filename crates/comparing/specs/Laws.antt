@@ -2,14 +2,13 @@
 -- Assumes nothing.
 use Rattle.std.proofs.Math.Path.{◌≡◌, sym, ap, ap₂, subst}
 use Rattle.std.proofs.Common.{◌∙◌, add-one, arith}
-use Rattle.std.specs.Prelude.{true, false, List, [], ◌∷◌, ℕ, ◌+◌, ◌^◌, ◌<◌, T, ℤ, ◌-ℤ◌}
+use Rattle.std.specs.Prelude.{true, false, List, [], ◌∷◌, ℕ, ◌+◌, ◌^◌, ◌<◌, T, ℤ, ◌-ℤ◌, Ok}
 use Rattle.std.proofs.Math.IntN.{pos}
 use borrow.Author.Tests.{eq-eqb, ne_eqb}
 use Rattle.model.specs.Model.{Yard, Outcome, outcome, cost, kept}
 use Rattle.day.specs.Answer.{gives, refuses}
 use Rattle.day.specs.Sound.{day_limits, sound}
 use Rattle.day.specs.Most.{cost-most}
-use Rattle.day.specs.declared.Verdict.TheVariants.{Accepted}
 use Rattle.counting.specs.Counting.{outcome_of}
 use Rattle.counting.specs.declared.Value.{Value}
 use Rattle.procedures.specs.Procedures.{left_over}
@@ -31,7 +30,7 @@ module _ (y : Yard) (row : List ℕ) (best : ℕ) {k : ℕ} (found : k ≡ left_
 
   -- every train has one, and none is
   pub says_complete : {v : Value} {s : ℤ} → k ≡ y.trains → kept y.trains y.groups row ≡ true → outcome_of v ≡ outcome y row → s ≡ pos v.cost -ℤ pos best
-      → Says (against y row best) record { verdict = Accepted; value = v; saving = s }
+      → Says (against y row best) record { verdict = Ok tt; value = v; saving = s }
   unfolding against cost
   says_complete {v} {s} h p e f =
       let said : against y row best ≡ gives record { outcome = outcome y row; saving = pos (cost y row) -ℤ pos best } = rw (← found, eq-eqb k y.trains h, p) in

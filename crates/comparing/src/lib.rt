@@ -10,12 +10,13 @@ ghost use Rattle.comparing.specs.Comparing.{against};
 ghost use Rattle.comparing.specs.Comparing.{Says};
 
 use counting::Value;
-use day::{Day, Refusal, Verdict};
+use day::{Day, Refusal};
 
 // The four numbers of a procedure's row, and the saving, its cost less the planned cost; zeros with a refusal.
+// Stays: numbers beside a verdict, since `Says` (the contracts of `compare`, `compare_with`) and the second clause of `measure` promise the zeros.
 #[derive(Clone, Copy)]
 pub struct Baseline {
-    pub verdict: Verdict,
+    pub verdict: Result<(), Refusal>,
     pub value: Value,
     pub saving: i64,
 }
@@ -25,7 +26,7 @@ pub fn refused(given: Refusal) -> Baseline
     ensures { Says (refusal given) result }
 {
     Baseline {
-        verdict: Verdict::Refused(given),
+        verdict: Err(given),
         value: counting::zero_value(),
         saving: 0,
     }
@@ -41,16 +42,14 @@ pub fn compare(day: Day, row: &[u8], best: u64) -> Baseline
     if left < n {
         return refused(Refusal::WithoutSlot(left + 1));
     }
-    let groups = day.groups;
     let most = day::day_limits().groups;
-    if wagon_sets::first_parted(&groups, row, n, most) < most {
+    if wagon_sets::first_parted(&day.groups, row, n, most) < most {
         return refused(Refusal::WithoutSlot(0));
     }
-    let boxes = day.boxes;
-    let value = counting::value_slots(&boxes, 12, row, n, day.revisit, day.split);
+    let value = counting::value_slots(&day.boxes, 12, row, n, day.revisit, day.split);
     Baseline {
-        verdict: Verdict::Accepted,
-        value: value,
+        verdict: Ok(()),
+        value,
         saving: procedures::saving_of(value.cost, best),
     }
 }

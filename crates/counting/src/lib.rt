@@ -13,6 +13,7 @@ ghost use Rattle.counting.specs.Counting.{outcome_of, no_outcome};
 
 // The model's two counts and order 6's, a number type each. Outside this crate a count is opened by its own opener alone; only `weigh` opens
 // two, revisits and split moves. Direct moves are not weighed.
+// Stays: number types by hand, as what may not change says (01, "Forms for each place": Revisits and Splits).
 #[derive(Clone, Copy)]
 pub struct Revisits(u64);
 
@@ -66,7 +67,11 @@ pub fn zero_value() -> Value
     }
 }
 
+// Stays: `boxes`, `width`, `row` and `n` are parameters of their own, since those of `count_revisits`, `count_splits`, `count_direct`,
+// `boxes_outside` and `value_slots` may not change.
+
 // Whether train j supplies train i and has a later slot.
+#[tactic(auto, unfolding(model::specs::Model::late_supplier))]
 fn is_late_supplier(boxes: &[u8], width: usize, row: &[u8], i: usize, j: usize) -> bool
     requires { GivenPair width boxes.now row.now i j }
     ensures { result ≡ late_supplier (cell width boxes.now) row.now i j }
@@ -79,28 +84,19 @@ fn is_revisiting(boxes: &[u8], width: usize, row: &[u8], n: usize, i: usize) -> 
     requires { Given n width boxes.now row.now × (i < n) }
     ensures { result ≡ revisiting n (cell width boxes.now) row.now i }
 {
-    for j in 0..n {
-        if is_late_supplier(boxes, width, row, i, j) {
-            return true;
-        }
-    }
-    false
+    (0..n).any(|j| is_late_supplier(boxes, width, row, i, j))
 }
 
 pub fn count_revisits(boxes: &[u8], width: usize, row: &[u8], n: usize) -> Revisits
     requires { Given n width boxes.now row.now }
     ensures { (result.0 ≡ revisits n (cell width boxes.now) row.now) × (result.0 ≤ 64) }
 {
-    let mut count: u64 = 0;
-    for i in 0..n {
-        if is_revisiting(boxes, width, row, n, i) {
-            count += 1;
-        }
-    }
-    Revisits(count)
+    let revisiting = (0..n).filter(|&i| is_revisiting(boxes, width, row, n, i));
+    Revisits(revisiting.count() as u64)
 }
 
 // The boxes that train i receives from train j, where j is not in slot t.
+#[tactic(auto, unfolding(model::specs::Model::outside_boxes))]
 fn outside_boxes(boxes: &[u8], width: usize, row: &[u8], t: u8, i: usize, j: usize) -> u64
     requires { GivenPair width boxes.now row.now i j }
     ensures { (result ≡ outside_boxes (cell width boxes.now) row.now t i j) × (result ≤ 255) }
@@ -108,7 +104,7 @@ fn outside_boxes(boxes: &[u8], width: usize, row: &[u8], t: u8, i: usize, j: usi
     if t == row[j] {
         0
     } else {
-        day::wide8(day::cell_at(boxes, width, i, j))
+        u64::from(day::cell_at(boxes, width, i, j))
     }
 }
 
@@ -117,31 +113,30 @@ pub fn boxes_outside(boxes: &[u8], width: usize, row: &[u8], n: usize, t: u8, i:
     requires { Given n width boxes.now row.now × (i < n) }
     ensures { (result ≡ sum n (outside_boxes (cell width boxes.now) row.now t i)) × (result ≤ 16320) }
 {
-    let mut total: u64 = 0;
-    for j in 0..n {
-        total += outside_boxes(boxes, width, row, t, i, j);
-    }
-    total
+    (0..n)
+        .map(|j| outside_boxes(boxes, width, row, t, i, j))
+        .sum()
 }
 
 pub fn count_splits(boxes: &[u8], width: usize, row: &[u8], n: usize) -> Splits
     requires { Given n width boxes.now row.now }
     ensures { (result.0 ≡ splits n (cell width boxes.now) row.now) × (result.0 ≤ 1044480) }
 {
-    let mut total: u64 = 0;
-    for i in 0..n {
-        total += boxes_outside(boxes, width, row, n, row[i], i);
-    }
-    Splits(total)
+    Splits(
+        (0..n)
+            .map(|i| boxes_outside(boxes, width, row, n, row[i], i))
+            .sum(),
+    )
 }
 
 // The boxes that train i receives from train j, where they are in the same slot.
+#[tactic(auto, unfolding(model::specs::Model::direct_boxes))]
 fn direct_boxes(boxes: &[u8], width: usize, row: &[u8], i: usize, j: usize) -> u64
     requires { GivenPair width boxes.now row.now i j }
     ensures { (result ≡ direct_boxes (cell width boxes.now) row.now i j) × (result ≤ 255) }
 {
     if row[i] == row[j] {
-        day::wide8(day::cell_at(boxes, width, i, j))
+        u64::from(day::cell_at(boxes, width, i, j))
     } else {
         0
     }
@@ -152,30 +147,23 @@ fn direct_to(boxes: &[u8], width: usize, row: &[u8], n: usize, i: usize) -> u64
     requires { Given n width boxes.now row.now × (i < n) }
     ensures { (result ≡ direct_to n (cell width boxes.now) row.now i) × (result ≤ 16320) }
 {
-    let mut total: u64 = 0;
-    for other in 0..n {
-        total += direct_boxes(boxes, width, row, i, other);
-    }
-    total
+    (0..n).map(|j| direct_boxes(boxes, width, row, i, j)).sum()
 }
 
 pub fn count_direct(boxes: &[u8], width: usize, row: &[u8], n: usize) -> Direct
     requires { Given n width boxes.now row.now }
     ensures { result.0 ≡ direct n (cell width boxes.now) row.now }
 {
-    let mut total: u64 = 0;
-    for i in 0..n {
-        total += direct_to(boxes, width, row, n, i);
-    }
-    Direct(total)
+    Direct((0..n).map(|i| direct_to(boxes, width, row, n, i)).sum())
 }
 
 // The cost, equation (1).
+#[tactic(auto, unfolding(model::specs::Model::weighed))]
 fn weigh(revisit: u32, split: u32, revisits: Revisits, splits: Splits) -> u64
     requires { (revisits.0 ≤ 64) × (splits.0 ≤ 1044480) }
     ensures { result ≡ weighed revisit split revisits.0 splits.0 }
 {
-    day::wide32(revisit) * revisits.0 + day::wide32(split) * splits.0
+    u64::from(revisit) * revisits.0 + u64::from(split) * splits.0
 }
 
 // The trains of slot t as one mask (01: the set number of the slot).
@@ -184,9 +172,9 @@ pub fn slot_mask(row: &[u8], n: usize, t: u8) -> u64
     ensures { result ≡ slot_mask n row.now t }
 {
     let mut mask: u64 = 0;
-    for i in 0..n {
-        if row[i] == t {
-            mask = mask | (1u64 << i);
+    for (i, &slot) in row[..n].iter().enumerate() {
+        if slot == t {
+            mask |= 1 << i;
         }
     }
     mask
@@ -207,8 +195,8 @@ pub fn value_slots(
     let revisits = count_revisits(boxes, width, row, n);
     let splits = count_splits(boxes, width, row, n);
     Value {
-        revisits: revisits,
-        splits: splits,
+        revisits,
+        splits,
         direct: count_direct(boxes, width, row, n),
         cost: weigh(revisit, split, revisits, splits),
     }

@@ -2,12 +2,13 @@
 -- A date field by field; month lengths, and the days before a year or a month as the code's loops sum them. What holds of every month is
 -- tested over the table of lengths, for a leap year and another.
 -- Assumes nothing.
-use Rattle.std.specs.Prelude.{◌≡◌, refl, Bool, true, false, cond, ◌&&◌, ◌∷◌, ℕ, zero, suc, ◌+◌, ◌-◌, ◌≤◌, ◌<◌, T, leb, eqb, get_or}
+use Rattle.std.specs.Prelude.{◌≡◌, refl, Bool, true, false, cond, ◌&&◌, ◌∷◌, ℕ, zero, suc, ◌+◌, ◌-◌, ◌*◌, ◌≤◌, ◌<◌, T, leb, eqb, get_or}
 use Rattle.std.proofs.Common.{ap, ◌∙◌, ⊎_elim, arith, leb-true, le-leb, eqb-true, eq-eqb}
 use Rattle.std.proofs.Math.ListN.{get_or-eq_default}
 use Rattle.fold.specs.Test.{is_true, of_true, both, both_of}
 use Rattle.fold.specs.Counting.{le_or_lt}
 use Rattle.fold.specs.Fold.{sum, sum_none, sum-next, each, each_at}
+use Rattle.fold.specs.Sums.{sum_bound, sum_ext}
 use Rattle.dates.specs.declared.Date.{Date}
 use Rattle.dates.specs.Dates.{leap, month_lengths, month_days, year_days, date, between, is_date, same_date, days_before_year, days_before_month}
 use Rattle.dates.specs.DateLaws.{IsDate, NoneOf}
@@ -93,10 +94,10 @@ month_between year zero l h = absurd (omega arith)
 month_between year (suc k) l h =
     between_is 28 31 (month_days year (suc k)) (each_at 12 (λ k. between 28 31 (month_days year (suc k))) (lengths_between (leap year)) k h)
 
-pub month_at-most : (year month : ℕ) → month_days year month ≤ 31
+pub month_at_most : (year month : ℕ) → month_days year month ≤ 31
 unfolding month_days
-month_at-most year zero = omega arith
-month_at-most year (suc k) =
+month_at_most year zero = omega arith
+month_at_most year (suc k) =
     ⊎_elim (λ (l : suc k ≤ 12). (month_between year (suc k) (omega arith) l).1) (λ (h : 12 < suc k). omega (arith, no_month year (suc k) h))
     (le_or_lt (suc k) 12)
 
@@ -112,10 +113,6 @@ months_of_year year = go (leap year)
     go false = refl
 
 -- ---- the days before a year and before a month
-
-pub no_years : days_before_year 2000 ≡ 0
-unfolding days_before_year
-no_years = sum_none (λ k. year_days (2000 + k))
 
 pub years_next : (year : ℕ) → 2000 ≤ year → days_before_year (year + 1) ≡ days_before_year year + year_days year
 unfolding days_before_year
@@ -136,3 +133,24 @@ months_next year month h =
     let here : suc (month - 1) ≡ month = omega arith in
     ap (λ k. sum k (λ k. month_days year (suc k))) one ∙ sum-next (month - 1) (λ k. month_days year (suc k))
     ∙ ap (λ k. (sum (month - 1) λ k. month_days year (suc k)) + month_days year k) here
+
+-- at most 366 days for each year, 31 for each month
+pub years_most : (year : ℕ) → days_before_year year ≤ 366 * (year - 2000)
+unfolding days_before_year
+years_most year = omega (arith, sum_bound (year - 2000) 366 (λ k. year_days (2000 + k)) (λ k h. year_most (2000 + k)))
+  where
+    year_most : (year : ℕ) → year_days year ≤ 366
+    year_most year = go (leap year)
+      where
+        go : (isLeap : Bool) → cond isLeap 366 365 ≤ 366
+        go true = omega arith
+        go false = omega arith
+
+pub months_most : (year month : ℕ) → days_before_month year month ≤ 31 * (month - 1)
+unfolding days_before_month
+months_most year month = omega (arith, sum_bound (month - 1) 31 (λ k. month_days year (suc k)) (λ k h. month_at_most year (suc k)))
+
+-- the months counted from the first
+pub months_from_first : (year month : ℕ) → (sum (month - 1) λ k. month_days year (1 + k)) ≡ days_before_month year month
+unfolding days_before_month
+months_from_first year month = sum_ext (month - 1) (λ k. month_days year (1 + k)) (λ k. month_days year (suc k)) (λ k h. ap (month_days year) (omega arith))

@@ -8,7 +8,7 @@ use Rattle.std.proofs.Math.Path.{ap}
 use Rattle.fold.specs.Counting.{le_or_lt}
 use Rattle.fold.specs.Fold.{sum}
 use Rattle.dates.specs.declared.Date.{Date}
-use Rattle.dates.specs.Dates.{leap, month_days, year_days, date, first_date, last_date, is_date, days_before_year, days_before_month, day_number, next}
+use Rattle.dates.specs.Dates.{leap, month_days, year_days, date, last_date, is_date, days_before_year, days_before_month, day_number, next}
 use Rattle.dates.proofs.DateLaws.{date_is, months_of_year, years_next, months_next}
 use Rattle.dates.proofs.Following.{next-number, next-date}
 use Rattle.dates.specs.Numbering.{date_at}

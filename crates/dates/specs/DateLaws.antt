@@ -1,14 +1,9 @@
 -- A date field by field; month lengths, and the days before a year or a month as the code's loops sum them. What holds of every month is
 -- tested over the table of lengths, for a leap year and another.
 -- Assumes nothing.
-use Rattle.std.specs.Prelude.{◌≡◌, refl, Bool, true, false, cond, ◌&&◌, ◌∷◌, ℕ, zero, suc, ◌+◌, ◌-◌, ◌≤◌, ◌<◌, T, leb, eqb, get_or}
-use Rattle.std.proofs.Common.{ap, ◌∙◌, ⊎_elim, arith, leb-true, le-leb, eqb-true, eq-eqb}
-use Rattle.std.proofs.Math.ListN.{get_or-eq_default}
-use Rattle.fold.specs.Test.{is_true, of_true, both, both_of}
-use Rattle.fold.specs.Counting.{le_or_lt}
-use Rattle.fold.specs.Fold.{sum, sum_none, sum-next, each, each_at}
+use Rattle.std.specs.Prelude.{◌≡◌, ℕ, zero, suc, ◌≤◌}
 use Rattle.dates.specs.declared.Date.{Date}
-use Rattle.dates.specs.Dates.{leap, month_lengths, month_days, year_days, date, between, is_date, same_date, days_before_year, days_before_month}
+use Rattle.dates.specs.Dates.{month_days}
 
 -- ---- a date, field by field
 

@@ -1,11 +1,9 @@
 -- What a call answers, in the numbers of documents 01 and 02: what it gives, or the number of a refusal with the values that it carries.
 -- Every enum of an answer is mapped to this, and the promises speak of it.
 -- Assumes nothing.
-use Rattle.std.specs.Prelude.{Bool, true, cond, ◌&&◌, List, [], ◌∷◌, ℕ}
+use Rattle.std.specs.Prelude.{Bool, true, cond, ◌&&◌, List, [], ◌∷◌, ℕ, Result, Ok, Err}
 use Rattle.day.specs.declared.Refusal.{Refusal}
 use Rattle.day.specs.declared.Refusal.TheVariants.{NamesLine, RowForm, OutOfLimits, NumberOrder, WindowOrder, UnknownTrain, PairOrder, Unsound, Overbooked, TooShort, RowLength, OutsideWindow, SlotOverfull, WithoutSlot, GroupRow, NoAllowedRow, GroupParted, TrainUnavailable, TrainNotAddable, NoOpenSlot, WidthOutOfRange, TooManyDays, CalendarOutOfRange, NoWindow}
-use Rattle.day.specs.declared.Verdict.{Verdict}
-use Rattle.day.specs.declared.Verdict.TheVariants.{Accepted, Refused}
 
 pub data Answer (X : Type 0) : Type 0 where
   gives : X → Answer X
@@ -68,10 +66,14 @@ carried NoWindow = 0 ∷ []
 abbrev pub refusal : {X : Type 0} → Refusal → Answer X
 refusal r = refuses (number r) (carried r)
 
+-- what a call's result answers, told by what its value is
+abbrev pub answered : {X Y : Type 0} → (X → Y) → Result X Refusal → Answer Y
+answered told (Ok x) = gives (told x)
+answered told (Err r) = refusal r
+
 -- what stands beside a verdict, where it is accepted
-abbrev pub judged : {X : Type 0} → Verdict → X → Answer X
-judged Accepted x = gives x
-judged (Refused r) x = refusal r
+abbrev pub judged : {X : Type 0} → Result Unit Refusal → X → Answer X
+judged verdict x = answered (λ u. x) verdict
 
 -- the number of an answer, 0 where something is given
 abbrev pub code : {X : Type 0} → Answer X → ℕ

@@ -5,3 +5,4 @@ pub mod SoundLaws
 pub mod Most
 pub mod SoundDay
 pub mod Reweighed
+pub mod Parts

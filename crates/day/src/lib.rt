@@ -6,6 +6,7 @@
 ghost use Rattle.std.specs.Prelude.{◌≡◌, [], ◌∷◌, ◌≤◌, ◌<◌, length};
 ghost use Rattle.model.specs.Model.{cell, in_time};
 ghost use Rattle.model.specs.Cells.{InTable};
+ghost use Rattle.day.specs.Parts.{part_yard, IsShaped};
 ghost use Rattle.day.specs.Sound.{day_limits, head_of, yard, zero_day, range, between, within, head_ranges, train_ranges, move_ranges, group_ranges};
 
 // A day. Positions are counted from 0; A(i, j), the boxes that train i receives from train j, stands at i * 12 + j of `boxes`.
@@ -25,7 +26,7 @@ pub struct Day {
 }
 
 // The row of the first section of a day file. With it a day of any size is four columns and a table of boxes.
-#[derive(Clone, Copy)]
+#[derive(Clone, Copy, Debug, PartialEq, Eq)]
 pub struct Head {
     pub trains: usize,
     pub tracks: u32,
@@ -34,8 +35,20 @@ pub struct Head {
     pub split: u32,
 }
 
-// The greatest value of each field of a day file. Where `groups` is 0 the file has no fourth section.
+// A day of any size, lent: its limits, its head, four columns and a table of boxes, each as long as the limits say.
 #[derive(Clone, Copy)]
+pub struct Parts<'a> {
+    pub limits: Limits,
+    pub head: Head,
+    pub numbers: &'a [u32],
+    pub first: &'a [u8],
+    pub last: &'a [u8],
+    pub groups: &'a [u8],
+    pub boxes: &'a [u8],
+}
+
+// The greatest value of each field of a day file. Where `groups` is 0 the file has no fourth section.
+#[derive(Clone, Copy, Debug, PartialEq, Eq)]
 pub struct Limits {
     pub trains: usize,
     pub tracks: u32,
@@ -49,7 +62,7 @@ pub struct Limits {
 // The refusals 1 to 13 of document 01 and 14 to 24 of document 02, in their order, with what each carries: a line of the text, counted
 // from 1, or 0 where no text is read; the first and the last slot of an interval and the trains bound inside; a position or a slot,
 // counted from 1 (`WithoutSlot` of 0: each train has a slot, and the row is still not allowed); a group.
-#[derive(Clone, Copy)]
+#[derive(Clone, Copy, Debug, PartialEq, Eq)]
 pub enum Refusal {
     NamesLine(usize),
     RowForm(usize),
@@ -77,13 +90,6 @@ pub enum Refusal {
     NoWindow,
 }
 
-// What a call says beside the numbers or the day that it gives: accepted, or the refusal.
-#[derive(Clone, Copy)]
-pub enum Verdict {
-    Accepted,
-    Refused(Refusal),
-}
-
 // The limits of document 01; that of train numbers is order 2's of document 02, that of groups order 4's.
 pub fn day_limits() -> Limits
     ensures { result ≡ day_limits }
@@ -97,19 +103,6 @@ pub fn day_limits() -> Limits
         boxes: 255,
         groups: 12,
     }
-}
-
-// A byte and a word, widened.
-pub fn wide8(x: u8) -> u64
-    ensures { (result ≡ x) × (result ≤ 255) }
-{
-    x as u64
-}
-
-pub fn wide32(x: u32) -> u64
-    ensures { (result ≡ x) × (result ≤ 4294967295) }
-{
-    x as u64
 }
 
 // Whether a value lies in a range.
@@ -174,15 +167,33 @@ pub fn is_in_time(first: &[u8], last: &[u8], i: usize, t: u8) -> bool
     (first[i] <= t) & (t <= last[i])
 }
 
-pub fn head_of(day: Day) -> Head
-    ensures { result ≡ head_of day }
-{
-    Head {
-        trains: day.trains,
-        tracks: day.tracks,
-        slots: day.slots,
-        revisit: day.revisit,
-        split: day.split,
+impl Day {
+    pub fn head(&self) -> Head
+        ensures { result ≡ head_of self.now }
+    {
+        Head {
+            trains: self.trains,
+            tracks: self.tracks,
+            slots: self.slots,
+            revisit: self.revisit,
+            split: self.split,
+        }
+    }
+
+    pub fn parts(&self) -> Parts<'_>
+        ensures day { part_yard result ≡ yard self.now }
+        ensures limits { result.limits ≡ day_limits }
+        ensures shape { IsShaped result }
+    {
+        Parts {
+            limits: day_limits(),
+            head: self.head(),
+            numbers: &self.numbers,
+            first: &self.first,
+            last: &self.last,
+            groups: &self.groups,
+            boxes: &self.boxes,
+        }
     }
 }
 

@@ -4,14 +4,27 @@
 // Proved: each function is the definition of rolling's Rolling.antt that its contract names. Assumes nothing.
 #![tactic(auto)]
 
-ghost use Rattle.std.specs.Prelude.{◌≡◌, ◌≤◌, ◌<◌, length};
+ghost use Rattle.std.specs.Prelude.{◌≡◌, ◌≤◌, ◌<◌, ℕ, cond, eqb, length};
 ghost use Rattle.fold.specs.Column.{column};
 ghost use Rattle.model.specs.Model.{slot_of};
 ghost use Rattle.day.specs.Sound.{yard};
-ghost use Rattle.rolling.specs.Rolling.{served_slot, cut_first, cut_last, cut};
+ghost use Rattle.rolling.specs.Rolling.{served_slot, cut};
 ghost use Rattle.day_cut.specs.Account.{account};
 
 use day::Day;
+
+// What `slot` says of each of the first n positions; 0 past them.
+fn by_position<F: Fn(usize) -> u8>(n: usize, slot: F) -> [u8; 12]
+    requires few { n ≤ 12 }
+    requires callable { (i : ℕ) → i < n → F.pre slot i }
+    ensures { (h : ℕ → ℕ) → ((i r : ℕ) → i < n → F.post slot i r → r ≡ h i) → result ≡ column 12 n h }
+{
+    let mut slots = [0u8; 12];
+    for i in 0..n {
+        slots[i] = slot(i);
+    }
+    slots
+}
 
 // ---- served trains
 
@@ -27,61 +40,16 @@ pub fn served_slots(row: &[u8], n: usize, closed: u8) -> [u8; 12]
     requires { (n ≤ 12) × (n ≤ length row.now) }
     ensures { result ≡ column 12 n (λ i. served_slot closed (slot_of row.now i)) }
 {
-    let mut r = [0u8; 12];
-    for i in 0..n {
-        r[i] = served_slot(closed, row[i]);
-    }
-    r
+    by_position(n, |i| served_slot(closed, row[i]))
 }
 
 // ---- the windows that are left
 
-// The first slot left to position i: that in which its train was served, or the first one of its window that is open.
-fn cut_first(day: Day, closed: u8, served: [u8; 12], i: usize) -> u8
-    requires { (i < 12) × (closed < 255) }
-    ensures { result ≡ cut_first (account (yard day) closed served) i }
+// The slot in which a train was served, or where it still waits the one that is open to it.
+fn served_or(served: u8, waits: u8) -> u8
+    ensures { result ≡ cond (eqb served 0) waits served }
 {
-    if served[i] != 0 {
-        return served[i];
-    }
-    if day.first[i] <= closed {
-        return closed + 1;
-    }
-    day.first[i]
-}
-
-// The last slot left to position i: that in which its train was served, or its window's.
-fn cut_last(day: Day, closed: u8, served: [u8; 12], i: usize) -> u8
-    requires { i < 12 }
-    ensures { result ≡ cut_last (account (yard day) closed served) i }
-{
-    if served[i] == 0 {
-        day.last[i]
-    } else {
-        served[i]
-    }
-}
-
-fn first_slots_left(day: Day, closed: u8, served: [u8; 12]) -> [u8; 12]
-    requires { (day.trains ≤ 12) × (closed < 255) }
-    ensures { result ≡ column 12 day.trains (cut_first (account (yard day) closed served)) }
-{
-    let mut r = [0u8; 12];
-    for i in 0..day.trains {
-        r[i] = cut_first(day, closed, served, i);
-    }
-    r
-}
-
-fn last_slots_left(day: Day, closed: u8, served: [u8; 12]) -> [u8; 12]
-    requires { day.trains ≤ 12 }
-    ensures { result ≡ column 12 day.trains (cut_last (account (yard day) closed served)) }
-{
-    let mut r = [0u8; 12];
-    for i in 0..day.trains {
-        r[i] = cut_last(day, closed, served, i);
-    }
-    r
+    if served == 0 { waits } else { served }
 }
 
 // The day with its windows cut: a served train is bound to its slot, and the others to the open slots.
@@ -89,8 +57,9 @@ pub fn cut_day(day: Day, closed: u8, served: [u8; 12]) -> Day
     requires { (day.trains ≤ 12) × (closed < 255) }
     ensures { yard result ≡ cut (account (yard day) closed served) }
 {
-    let first = first_slots_left(day, closed, served);
-    let last = last_slots_left(day, closed, served);
+    let n = day.trains;
+    let first = by_position(n, |i| served_or(served[i], day.first[i].max(closed + 1)));
+    let last = by_position(n, |i| served_or(served[i], day.last[i]));
     let mut d = day;
     d.first = first;
     d.last = last;

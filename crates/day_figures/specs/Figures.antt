@@ -1,9 +1,9 @@
 -- What a day file comes to in a report over a period (document 02, order 10; its season): planned, with the figures of its plan, or refused
 -- under the number that reading or planning gives. This file is what a reader must believe of one day.
 -- Assumes nothing.
-use Rattle.std.specs.Prelude.{List, ℕ, ◌-◌}
+use Rattle.std.specs.Prelude.{List, ℕ, ◌-◌, Result}
 use Rattle.model.specs.Model.{Yard, Outcome, boxes_of}
-use Rattle.day.specs.Answer.{Answer, gives, refusal, on_given, where_given}
+use Rattle.day.specs.Answer.{Answer, gives, answered, on_given, where_given}
 use Rattle.day.specs.declared.Limits.{Limits}
 use Rattle.dayfile.specs.Reading.{read_day}
 use Rattle.planning.specs.Planning.{cost_area, choice_area, planned}
@@ -11,14 +11,12 @@ use Rattle.procedures.specs.Procedures.{first_come}
 use Rattle.comparing.specs.Comparing.{Comparison}
 use Rattle.baselines.specs.Baselines.{compared}
 use Rattle.day_figures.specs.declared.Figures.{Figures}
-use Rattle.day_figures.specs.declared.DayAnswer.{DayAnswer}
-use Rattle.day_figures.specs.declared.DayAnswer.TheVariants.{Planned, Refused}
+use Rattle.day.specs.declared.Refusal.{Refusal}
 
 -- ---- the code's answer in the papers' numbers
 
-abbrev pub answer : DayAnswer → Answer Figures
-answer (Planned f) = gives f
-answer (Refused r) = refusal r
+abbrev pub answer : Result Figures Refusal → Answer Figures
+answer = answered λ f. f
 
 -- ---- the figures of a planned day
 

@@ -15,8 +15,7 @@ ghost use Rattle.day_figures.specs.Figures.{answer, saved, figures, plan_answer,
 
 use baselines::Procedure;
 use counting::Value;
-use day::{Day, Refusal, Verdict};
-use planning::Planned;
+use day::{Day, Refusal};
 
 // The figures of a planned day, or of several, added up: revisits, split moves, direct moves, all boxes, and what planning saves against
 // first come.
@@ -29,24 +28,15 @@ pub struct Figures {
     pub savings: u64,
 }
 
-// What a day comes to: its figures, or why it is refused.
-#[derive(Clone, Copy)]
-pub enum DayAnswer {
-    Planned(Figures),
-    Refused(Refusal),
-}
-
 // What first come costs more than the plan of a day; 0 where it gives no allowed row.
 fn saved_by(day: Day, best: Value) -> u64
     requires { planned day_limits (yard day) cost_area choice_area day.trains ≡ gives (outcome_of best) }
     ensures { result ≡ saved (outcome_of best) (compared day_limits (yard day) (first_come (yard day)) cost_area choice_area) }
 {
     let baseline = baselines::compare_with(Procedure::FirstCome, day, best.cost);
-    let verdict = baseline.verdict;
-    let row = baseline.value;
-    match verdict {
-        Verdict::Accepted => row.cost - best.cost,
-        Verdict::Refused(_) => 0,
+    match baseline.verdict {
+        Ok(()) => baseline.value.cost - best.cost,
+        Err(_) => 0,
     }
 }
 
@@ -59,33 +49,27 @@ fn figures_of(day: Day, best: Value) -> Figures
     let direct = best.direct.count();
     Figures {
         revisits: best.revisits.count(),
-        splits: splits,
-        direct: direct,
+        splits,
+        direct,
         boxes: direct + splits,
         savings: saved_by(day, best),
     }
 }
 
 // Plans a day in areas that suffice for every day.
-fn plan_day(day: Day, cost: &mut [u64], choice: &mut [u16]) -> DayAnswer
+fn plan_day(day: Day, cost: &mut [u64], choice: &mut [u16]) -> Result<Figures, Refusal>
     requires { (length cost.old ≡ cost_area) × (length choice.old ≡ choice_area) }
     ensures { answer result ≡ plan_answer day_limits (yard day) }
 {
-    match baselines::plan_cost(day, cost, choice) {
-        Planned::Plan(best) => DayAnswer::Planned(figures_of(day, best)),
-        Planned::Refused(refusal) => DayAnswer::Refused(refusal),
-    }
+    let best = baselines::plan_cost(day, cost, choice)?;
+    Ok(figures_of(day, best))
 }
 
-// A day file, read and planned.
-pub fn day_of(text: &[u8], cost: &mut [u64], choice: &mut [u16]) -> DayAnswer
+// A day file, read and planned: its figures, or why it is refused.
+pub fn day_of(text: &[u8], cost: &mut [u64], choice: &mut [u16]) -> Result<Figures, Refusal>
     requires { (length cost.old ≡ cost_area) × (length choice.old ≡ choice_area) }
     ensures { answer result ≡ day_answer day_limits text.now }
 {
-    let reading = dayread::read_day(text);
-    let verdict = reading.verdict;
-    match verdict {
-        Verdict::Accepted => plan_day(reading.day, cost, choice),
-        Verdict::Refused(refusal) => DayAnswer::Refused(refusal),
-    }
+    let day = dayread::read_record(text)?;
+    plan_day(day, cost, choice)
 }

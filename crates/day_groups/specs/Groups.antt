@@ -2,7 +2,7 @@
 -- Assumes nothing.
 use Rattle.std.proofs.Math.Path.{◌≡◌, refl, sym, ap}
 use Rattle.std.proofs.Common.{◌∙◌, arith, ltb→lt, length-append, length-drop, drop_of_length-le, drop-cons}
-use Rattle.std.specs.Prelude.{true, false, not, ◌&&◌, ℕ, suc, ◌+◌, ◌-◌, ◌≤◌, ◌<◌, T, set, drop, replicate}
+use Rattle.std.specs.Prelude.{true, false, not, ◌&&◌, ℕ, suc, ◌+◌, ◌-◌, ◌≤◌, ◌<◌, T, set, drop, replicate, Result, Ok, Err}
 use mathlib.Core.List.{List, [], ◌∷◌, ◌++◌, append-nil}
 use Rattle.std.proofs.Math.ListN.{length}
 use Rattle.fold.specs.Test.{both_of}
@@ -17,8 +17,6 @@ use Rattle.dayfile.specs.LineLaws.{names-line_read, row-line_read, groups_end, g
 use Rattle.day_rows.specs.Steps.{row_rest, RowTo}
 use Rattle.day_rows.specs.Joined.{add_rows, add_none, add_one_more, stored_next, row_further}
 use Rattle.day_rows.specs.Members.{Marks, marks_none, marks_next}
-use Rattle.day_rows.specs.declared.Step.{Step}
-use Rattle.day_rows.specs.declared.Step.TheVariants.{Next, Refused as Stopped}
 
 -- what a row of a group says: its train is listed, its group is a number from 1 to the limit, and it takes some of the text
 pub record GroupRow (l : Limits) (numbers : List ℕ) (a b p next : ℕ) : Type 0 where
@@ -28,10 +26,10 @@ pub record GroupRow (l : Limits) (numbers : List ℕ) (a b p next : ℕ) : Type 
   pub group : a ≤ l.groups
   pub further : p < next
 
-pub group_row : (l : Limits) (numbers taken before : List ℕ) (line p : ℕ) (t : List ℕ) {a b c d e next : ℕ} → p ≤ length t
-    → RowTo 1 t (read_row 1 line (group_checks l numbers taken before line) (drop p t)) a b c d e next → GroupRow l numbers a b p next
+pub group_row : (l : Limits) (numbers taken before : List ℕ) (line p : ℕ) (t : List ℕ) {a b next : ℕ} → p ≤ length t
+    → RowTo t (read_row 1 line (group_checks l numbers taken before line) (drop p t)) (a ∷ b ∷ []) next → GroupRow l numbers a b p next
 unfolding group_ranges
-group_row l numbers taken before line p t {a} {b} {c} {d} {e} {next} inside h =
+group_row l numbers taken before line p t {a} {b} {next} inside h =
     let r : List ℕ = a ∷ b ∷ [] in
     let w = row-line_read 1 line (group_checks l numbers taken before line) (drop p t) (row_rest r (drop next t)) h.is in
     let (x, (y, u)) = within_is (group_ranges l) r w.holds.0 in
@@ -64,9 +62,9 @@ pub record GroupsRead (numbers : List ℕ) (answer : Answer Rows) (groups₀ gro
   pub is : answer ≡ gives (record { rows = rows; rest = [] })
   pub groups_are : groups ≡ stored_groups numbers groups₀ rows
 
-abbrev pub GroupsTo : List ℕ → Answer Rows → List ℕ → List ℕ → Step → Type 0
-GroupsTo numbers answer groups₀ groups (Next p) = GroupsRead numbers answer groups₀ groups
-GroupsTo numbers answer groups₀ groups (Stopped x) = answer ≡ refusal x
+abbrev pub GroupsTo : List ℕ → Answer Rows → List ℕ → List ℕ → Result Unit Refusal → Type 0
+GroupsTo numbers answer groups₀ groups (Ok u) = GroupsRead numbers answer groups₀ groups
+GroupsTo numbers answer groups₀ groups (Err x) = answer ≡ refusal x
 
 pub groups_into : {numbers : List ℕ} {answer : Answer Rows} {groups₀ groups : List ℕ} (z : List ℕ)
     → GroupsRead numbers answer groups₀ groups → groups₀ ≡ z → GroupsRead numbers answer z groups
@@ -107,9 +105,9 @@ module _ (l : Limits) (numbers : List ℕ) (line start : ℕ) (t : List ℕ) whe
       groups_are = g.groups_are;
     }
 
-    pub groups_next : {a b c d e next : ℕ} → RowTo 1 t (read_row 1 k (group_checks l numbers g.taken (group ∷ train ∷ []) k) (drop p t)) a b c d e next
+    pub groups_next : {a b next : ℕ} → RowTo t (read_row 1 k (group_checks l numbers g.taken (group ∷ train ∷ []) k) (drop p t)) (a ∷ b ∷ []) next
         → length numbers ≤ length groups → GroupsSoFar l numbers line start t groups₀ (set groups (position numbers b) a) next (k + 1) a b
-    groups_next {a} {b} {c} {d} {e} {next} h room =
+    groups_next {a} {b} {next} h room =
         let r : List ℕ = a ∷ b ∷ [] in
         let w = group_row l numbers g.taken (group ∷ train ∷ []) k p t g.inside h in
         let far = w.further in

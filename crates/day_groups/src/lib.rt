@@ -4,77 +4,58 @@
 // zeros. Each takes the good answer of a line apart, else hands the refusal up. Assumes nothing.
 #![tactic(auto)]
 
-ghost use Rattle.std.specs.Prelude.{◌≡◌, [], ◌∷◌, ◌≤◌, ◌+◌, length, take, drop, replicate};
+ghost use Rattle.std.specs.Prelude.{◌≡◌, [], ◌∷◌, ◌≤◌, ◌+◌, length, drop, replicate};
 ghost use Rattle.dayfile.specs.Reading.{read_groups, group_section};
 ghost use Rattle.day_groups.specs.Groups.{GroupsTo};
 
 use day::{Limits, Refusal};
-use day_rows::Step;
-use lines::Line;
+use day_rows::Place;
 
-// Reads the rows of groups, up to the end of the text, each into the column at its train's position. `start` is the line of the first.
+// Reads the rows of groups from the place `start` on, up to the end of the text, each into the column at its train's position.
 fn read_group_rows(
     l: Limits,
     text: &[u8],
-    at: usize,
-    start: usize,
+    start: Place,
     numbers: &[u32],
-    n: usize,
     groups: &mut [u8],
-) -> Step
-    requires { (at ≤ length text.now) × ((start ≤ 1001 + at) × ((n ≤ length numbers.now) × ((n ≤ l.trains) × (groups.old ≡ replicate l.trains 0)))) }
-    ensures { GroupsTo (take n numbers.now) (read_groups l (take n numbers.now) (length (drop at text.now)) [] (0 ∷ 0 ∷ []) start (drop at text.now)) groups.old groups.new result }
+) -> Result<(), Refusal>
+    requires { (start.at ≤ length text.now) × ((start.line ≤ 1001 + start.at) × ((length numbers.now ≤ l.trains) × (groups.old ≡ replicate l.trains 0))) }
+    ensures { GroupsTo numbers.now (read_groups l numbers.now (length (drop start.at text.now)) [] (0 ∷ 0 ∷ []) start.line (drop start.at text.now)) groups.old groups.new result }
 {
-    let mut p = at;
-    let mut line = start;
-    let mut group: u32 = 0;
-    let mut train: u32 = 0;
-    loop {
-        match day_rows::read_group(l, text, p, line, numbers, n, groups, group, train) {
-            Line::Row {
-                a,
-                b,
-                c: _,
-                d: _,
-                e: _,
-                next,
-            } => {
-                let i = day_rows::position_of(numbers, n, b);
-                groups[i] = day_rows::narrow(a);
-                group = a;
-                train = b;
-                p = next;
-                line += 1;
-            }
-            Line::Names { next: _ } | Line::End => return Step::Next(p),
-            Line::Refused(refusal) => return Step::Refused(refusal),
-        }
+    let mut place = start;
+    let mut before = (0, 0);
+    while let Some(row) = day_rows::read_group(l, text, place, numbers, groups, before)? {
+        groups[row.i] = row.group as u8;
+        before = (row.group, row.train);
+        place = Place {
+            at: row.next,
+            line: place.line + 1,
+        };
     }
+    Ok(())
 }
 
-// Reads the section of groups, whose names line is `line`, where the text goes on; it then has at least one row.
+// Reads the section of groups, whose names line stands at `place`, where the text goes on; it then has at least one row.
 pub fn read_groups(
     l: Limits,
     text: &[u8],
-    at: usize,
-    line: usize,
+    place: Place,
     numbers: &[u32],
-    n: usize,
     groups: &mut [u8],
-) -> Step
-    requires { (at ≤ length text.now) × ((line ≤ 1000 + at) × ((n ≤ length numbers.now) × ((n ≤ l.trains) × (groups.old ≡ replicate l.trains 0)))) }
-    ensures { GroupsTo (take n numbers.now) (group_section l (take n numbers.now) line (drop at text.now)) groups.old groups.new result }
+) -> Result<(), Refusal>
+    requires { (place.at ≤ length text.now) × ((place.line ≤ 1000 + place.at) × ((length numbers.now ≤ l.trains) × (groups.old ≡ replicate l.trains 0))) }
+    ensures { GroupsTo numbers.now (group_section l numbers.now place.line (drop place.at text.now)) groups.old groups.new result }
 {
-    if text.len() <= at {
-        return Step::Next(at);
+    if text.len() <= place.at {
+        return Ok(());
     }
-    let names = day_rows::read_names(text, at, line, &dayfile::GROUP_NAMES);
-    let Step::Next(next) = names else {
-        return names;
+    let next = day_rows::read_names(text, place.at, place.line, &dayfile::GROUP_NAMES)?;
+    let start = Place {
+        at: next,
+        line: place.line + 1,
     };
-    let first = line + 1;
-    if text.len() <= next {
-        return Step::Refused(Refusal::RowForm(first));
+    if text.len() <= start.at {
+        return Err(Refusal::RowForm(start.line));
     }
-    read_group_rows(l, text, next, first, numbers, n, groups)
+    read_group_rows(l, text, start, numbers, groups)
 }

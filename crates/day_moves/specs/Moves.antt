@@ -1,6 +1,6 @@
 -- The moves of a day file as the code's loop reads them: what has been read so far, and what is left to read.
 -- Assumes nothing.
-use Rattle.std.specs.Prelude.{true, false, not, ◌&&◌, ◌≡◌, refl, List, [], ◌∷◌, ◌++◌, ℕ, suc, ◌+◌, ◌-◌, ◌*◌, ◌≤◌, ◌<◌, eqb, set, drop}
+use Rattle.std.specs.Prelude.{true, false, not, ◌&&◌, ◌≡◌, refl, List, [], ◌∷◌, ◌++◌, ℕ, suc, ◌+◌, ◌-◌, ◌*◌, ◌≤◌, ◌<◌, eqb, set, drop, Result, Ok, Err}
 use Rattle.std.proofs.Math.Path.{sym}
 use Rattle.std.proofs.Common.{ap, ◌∙◌, append-nil, arith, ltb→lt, length-append, length-drop}
 use Rattle.std.proofs.Math.ListN.{length}
@@ -14,8 +14,7 @@ use Rattle.dayfile.specs.Reading.{field3, read_row, Rows, moves_end, read_moves,
 use Rattle.dayfile.specs.LineLaws.{row-line_read, moves_end_lem, moves_row, moves_stop}
 use Rattle.day_rows.specs.Steps.{row_rest, RowTo}
 use Rattle.day_rows.specs.Joined.{add_rows, add_none, add_one_more, stored_next, row_further}
-use Rattle.day_moves.specs.declared.Moves.{Moves}
-use Rattle.day_moves.specs.declared.Moves.TheVariants.{Next, Refused}
+use Rattle.day_rows.specs.declared.Place.{Place}
 
 -- what a row of a move says: both trains are listed, its boxes keep the limit, and it takes some of the text
 pub record MoveRow (l : Limits) (numbers : List ℕ) (a b c p next : ℕ) : Type 0 where
@@ -24,10 +23,10 @@ pub record MoveRow (l : Limits) (numbers : List ℕ) (a b c p next : ℕ) : Type
   pub boxes : c ≤ l.boxes
   pub further : p < next
 
-pub move_row_lem : (l : Limits) (numbers before : List ℕ) (line p : ℕ) (t : List ℕ) {a b c d e next : ℕ} → p ≤ length t
-    → RowTo 2 t (read_row 2 line (move_checks l numbers before line) (drop p t)) a b c d e next → MoveRow l numbers a b c p next
+pub move_row_lem : (l : Limits) (numbers before : List ℕ) (line p : ℕ) (t : List ℕ) {a b c next : ℕ} → p ≤ length t
+    → RowTo t (read_row 2 line (move_checks l numbers before line) (drop p t)) (a ∷ b ∷ c ∷ []) next → MoveRow l numbers a b c p next
 unfolding move_ranges
-move_row_lem l numbers before line p t {a} {b} {c} {d} {e} {next} inside h =
+move_row_lem l numbers before line p t {a} {b} {c} {next} inside h =
     let r : List ℕ = a ∷ b ∷ c ∷ [] in
     let w = row-line_read 2 line (move_checks l numbers before line) (drop p t) (row_rest r (drop next t)) h.is in
     let (x, (y, (z, u))) = within_is (move_ranges l) r w.holds.0 in
@@ -61,9 +60,9 @@ pub record MovesRead (numbers : List ℕ) (width line : ℕ) (t : List ℕ) (ans
   pub few : length rows ≤ p
   pub boxes_are : boxes ≡ stored_moves numbers width boxes₀ rows
 
-abbrev pub MovesTo : List ℕ → ℕ → ℕ → List ℕ → Answer Rows → List ℕ → List ℕ → Moves → Type 0
-MovesTo numbers width line t answer boxes₀ boxes (Next p k) = MovesRead numbers width line t answer boxes₀ boxes p k
-MovesTo numbers width line t answer boxes₀ boxes (Refused x) = answer ≡ refusal x
+abbrev pub MovesTo : List ℕ → ℕ → ℕ → List ℕ → Answer Rows → List ℕ → List ℕ → Result Place Refusal → Type 0
+MovesTo numbers width line t answer boxes₀ boxes (Ok m) = MovesRead numbers width line t answer boxes₀ boxes m.at m.line
+MovesTo numbers width line t answer boxes₀ boxes (Err x) = answer ≡ refusal x
 
 pub moves_into : {numbers : List ℕ} {width line : ℕ} {t : List ℕ} {answer : Answer Rows} {boxes₀ boxes : List ℕ} {p k : ℕ} (z : List ℕ)
     → MovesRead numbers width line t answer boxes₀ boxes p k → boxes₀ ≡ z → MovesRead numbers width line t answer z boxes p k
@@ -110,9 +109,9 @@ module _ (l : Limits) (numbers : List ℕ) (width line start : ℕ) (t : List �
       boxes_are = g.boxes_are;
     }
 
-    pub moves_next : {a b c d e next : ℕ} → RowTo 2 t (read_row 2 k (move_checks l numbers (to ∷ from ∷ 0 ∷ []) k) (drop p t)) a b c d e next
+    pub moves_next : {a b c next : ℕ} → RowTo t (read_row 2 k (move_checks l numbers (to ∷ from ∷ 0 ∷ []) k) (drop p t)) (a ∷ b ∷ c ∷ []) next
         → MovesSoFar l numbers width line start t boxes₀ (set boxes (position numbers a * width + position numbers b) c) next (k + 1) a b
-    moves_next {a} {b} {c} {d} {e} {next} h =
+    moves_next {a} {b} {c} {next} h =
         let r : List ℕ = a ∷ b ∷ c ∷ [] in
         let w = move_row_lem l numbers (to ∷ from ∷ 0 ∷ []) k p t g.inside h in
         let far = w.further in

@@ -1,8 +1,9 @@
--- Rows read before further rows, rows stored before a further one, and a section that stops: what the loops of the sections have in
--- common.
+-- Rows read before further rows, rows stored before a further one, a section that stops, and a refusal handed up: what the sections
+-- have in common.
 -- Assumes nothing.
-use Rattle.std.specs.Prelude.{◌≡◌, refl, List, [], ◌∷◌, ◌++◌, ℕ, suc, ◌+◌, ◌≤◌, ◌<◌, length, set, take, drop}
+use Rattle.std.specs.Prelude.{◌≡◌, refl, List, [], ◌∷◌, ◌++◌, ℕ, suc, ◌+◌, ◌≤◌, ◌<◌, length, set, drop, Result, Ok, Err}
 use Rattle.std.proofs.Common.{sym, ap, ◌∙◌, append_assoc, arith, length-append, length-drop}
+use Rattle.std.specs.Result.{IsErrAnd}
 use Rattle.day.specs.Answer.{Answer, gives, refuses, on_given, refusal, Check}
 use Rattle.day.specs.declared.Refusal.{Refusal}
 use Rattle.lines.specs.Lines.{row_text}
@@ -33,10 +34,9 @@ stored_next place value table (q ∷ rows) r = stored_next place value (set tabl
 
 -- ---- a row takes some of the text
 
-pub row_further : (k line : ℕ) (checks : List ℕ → List Check) (p : ℕ) (t : List ℕ) {a b c d e next : ℕ} → p ≤ length t
-    → RowTo k t (read_row k line checks (drop p t)) a b c d e next → p < next
-row_further k line checks p t {a} {b} {c} {d} {e} {next} inside h =
-    let r : List ℕ = take (suc k) (a ∷ b ∷ c ∷ d ∷ e ∷ []) in
+pub row_further : (k line : ℕ) (checks : List ℕ → List Check) (p : ℕ) (t : List ℕ) {r : List ℕ} {next : ℕ} → p ≤ length t
+    → RowTo t (read_row k line checks (drop p t)) r next → p < next
+row_further k line checks p t {r} {next} inside h =
     let w = row-line_read k line checks (drop p t) (row_rest r (drop next t)) h.is in
     let long : length (drop p t) ≡ length (row_text r) + length (drop next t) = ap length w.text ∙ length-append (row_text r) (drop next t) in
     let count : length r ≡ suc k = w.count in
@@ -47,3 +47,9 @@ row_further k line checks p t {a} {b} {c} {d} {e} {next} inside h =
 
 pub section_stops : {X Z : Type 0} (a : Answer X) (f : X → Answer Z) (x : Refusal) → a ≡ refusal x → on_given a f ≡ refusal x
 section_stops a f x e = ap (λ b. on_given b f) e
+
+-- ---- a refusal that a `?` handed up
+
+pub handed_up : {X E : Type 0} (o : Result X E) (e : E) → IsErrAnd o (λ f. f ≡ e) → o ≡ Err e
+handed_up (Ok x) e h = absurd h
+handed_up (Err f) e h = cc

@@ -1,16 +1,17 @@
 -- Trains that are in a group already: by the column of groups, as the code has it, and by the rows read before, as reading says it.
 -- Assumes nothing.
-use Rattle.std.specs.Prelude.{◌≡◌, refl, Bool, true, false, not, ◌&&◌, List, [], ◌∷◌, ◌≢◌, ℕ, ◌≤◌, ◌<◌, T, eqb, length, get_or, set, replicate}
+use Rattle.std.specs.Prelude.{◌≡◌, refl, Bool, true, false, not, ◌&&◌, List, [], ◌∷◌, ◌≢◌, ℕ, ◌≤◌, ◌<◌, T, eqb, length, get_or, set, replicate, Option, Result}
 use Rattle.std.proofs.Common.{sym, ap, subst, inl, inr, ⊎_elim, arith, ltb→lt, get_or-set_same, get_or-set_other, ne_eqb}
 use Rattle.std.proofs.lemmas.List.{get_or-replicate}
 use Rattle.fold.specs.Test.{same_test_lem, is_true}
 use Rattle.fold.specs.Fold.{lowest}
 use Rattle.fold.specs.Counting.{same_or}
 use Rattle.day.specs.declared.Limits.{Limits}
-use Rattle.lines.specs.declared.Line.{Line}
+use Rattle.day.specs.declared.Refusal.{Refusal}
 use Rattle.dayfile.specs.Reading.{position, is_listed, group_checks, is_end, read_row}
 use Rattle.dayfile.specs.Places.{position_same, listed_more, more-listed}
-use Rattle.day_rows.specs.Steps.{ReadsOrEnds}
+use Rattle.day_rows.specs.Steps.{ReadsMember}
+use Rattle.day_rows.specs.declared.GroupRow.{GroupRow}
 
 -- the position of a listed train holds 0 exactly where the train is none of those taken
 pub record Marks (numbers groups taken : List ℕ) : Type 0 where
@@ -60,6 +61,6 @@ marks_next {numbers} {groups} {taken} a b m some listed inside = record { free =
 
 -- ---- a row of a group, whatever rows the column marks, or the end of the text
 
-abbrev pub ReadsGroup : Limits → List ℕ → List ℕ → List ℕ → ℕ → List ℕ → List ℕ → Line → Type 0
+abbrev pub ReadsGroup : Limits → List ℕ → List ℕ → List ℕ → ℕ → List ℕ → List ℕ → Result (Option GroupRow) Refusal → Type 0
 ReadsGroup l numbers groups before line t s r =
-    (taken : List ℕ) → Marks numbers groups taken → ReadsOrEnds 1 (is_end s) t (read_row 1 line (group_checks l numbers taken before line) s) r
+    (taken : List ℕ) → Marks numbers groups taken → ReadsMember numbers (is_end s) t (read_row 1 line (group_checks l numbers taken before line) s) r

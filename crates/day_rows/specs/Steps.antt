@@ -1,10 +1,10 @@
 -- What the reading steps answer, as the code's lines and places, and how an answer of the line reader becomes one: a form that is
 -- refused is handed up, a row that was read goes on to its checks.
 -- Assumes nothing.
-use Rattle.std.specs.Prelude.{◌≡◌, refl, Bool, cond, ◌&&◌, ◌||◌, List, [], ◌∷◌, ℕ, suc, ◌≤◌, ltb, eqb, length, get_or, take, drop}
+use Rattle.std.specs.Prelude.{◌≡◌, refl, Bool, true, false, not, cond, ◌&&◌, ◌||◌, List, [], ◌∷◌, ℕ, ◌≤◌, ltb, eqb, length, get_or, take, drop, Option, Some, None, Result, Ok, Err}
 use Rattle.std.proofs.Common.{ap, ◌∙◌, subst, arith, length-take-le, get_or-take}
-use Rattle.std.proofs.Math.Bool.{true, false}
 use Rattle.day.specs.Answer.{Answer, gives, refuses, number, carried, refusal, Check, must, checked}
+use Rattle.day.specs.declared.Head.{Head}
 use Rattle.day.specs.declared.Limits.{Limits}
 use Rattle.day.specs.declared.Refusal.{Refusal}
 use Rattle.decimal.specs.Parsed.{Parsed, fail, got}
@@ -13,35 +13,43 @@ use Rattle.lines.specs.Laws.{row_read}
 use Rattle.lines.specs.Reader.{Found, a_names_line, a_row, the_end, a_refusal, names_found, row_found, end_or, names_or, found, RowAt}
 use Rattle.lines.specs.declared.Due.{Due}
 use Rattle.lines.specs.declared.Due.TheVariants.{RowOrEnd, RowNamesOrEnd, PairOrEnd}
-use Rattle.lines.specs.declared.Line.{Line}
-use Rattle.lines.specs.declared.Line.TheVariants.{Names, Row, End, Refused}
 use Rattle.fold.specs.Fold.{lowest}
 use Rattle.fold.specs.Sums.{lowest_ext}
-use Rattle.dayfile.specs.Reading.{group_names, or_refuse, is_end, is_read, RowRest, read_row, position, moves_end}
-use Rattle.day_rows.specs.declared.Step.{Step}
-use Rattle.day_rows.specs.declared.Step.TheVariants.{Next, Refused as Stopped}
+use Rattle.dayfile.specs.Reading.{group_names, or_refuse, is_end, is_read, RowRest, read_row, position, is_listed, moves_end}
+use Rattle.day_rows.specs.declared.HeadRow.{HeadRow}
+use Rattle.day_rows.specs.declared.TrainRow.{TrainRow}
+use Rattle.day_rows.specs.declared.MoveRow.{MoveRow}
+use Rattle.day_rows.specs.declared.GroupRow.{GroupRow}
 
--- ---- one row of k + 1 values, read up to the place `next` of the text t, or the refusal
+-- ---- one row, read up to the place `next` of the text t, or the refusal
 
 abbrev pub row_rest : List ℕ → List ℕ → RowRest
 row_rest r q = record { row = r; rest = q }
 
-pub record RowTo (k : ℕ) (t : List ℕ) (answer : Answer RowRest) (a b c d e next : ℕ) : Type 0 where
-  pub is : answer ≡ gives (row_rest (take (suc k) (a ∷ b ∷ c ∷ d ∷ e ∷ [])) (drop next t))
+pub record RowTo (t : List ℕ) (answer : Answer RowRest) (values : List ℕ) (next : ℕ) : Type 0 where
+  pub is : answer ≡ gives (row_rest values (drop next t))
   pub inside : next ≤ length t
 
-abbrev pub ReadsRow : ℕ → List ℕ → Answer RowRest → Line → Type 0
-ReadsRow k t answer (Names next) = ⊥
-ReadsRow k t answer (Row a b c d e next) = RowTo k t answer a b c d e next
-ReadsRow k t answer End = ⊥
-ReadsRow k t answer (Refused r) = answer ≡ refusal r
+-- the values of each kind of row, as the file has them
+abbrev pub head_values : Head → List ℕ
+head_values h = h.trains ∷ h.tracks ∷ h.slots ∷ h.revisit ∷ h.split ∷ []
 
--- the refusal of a refused line, `due` for a line of another kind
-abbrev pub refusal_of : Line → Refusal → Refusal
-refusal_of (Names next) due = due
-refusal_of (Row a b c d e next) due = due
-refusal_of End due = due
-refusal_of (Refused r) due = r
+abbrev pub train_values : TrainRow → List ℕ
+train_values r = r.number ∷ r.first ∷ r.last ∷ []
+
+abbrev pub move_values : MoveRow → List ℕ
+move_values r = r.to ∷ r.from ∷ r.boxes ∷ []
+
+abbrev pub group_values : GroupRow → List ℕ
+group_values r = r.group ∷ r.train ∷ []
+
+abbrev pub ReadsHead : List ℕ → Answer RowRest → Result HeadRow Refusal → Type 0
+ReadsHead t answer (Ok r) = RowTo t answer (head_values r.head) r.next
+ReadsHead t answer (Err x) = answer ≡ refusal x
+
+abbrev pub ReadsTrain : List ℕ → Answer RowRest → Result TrainRow Refusal → Type 0
+ReadsTrain t answer (Ok r) = RowTo t answer (train_values r) r.next
+ReadsTrain t answer (Err x) = answer ≡ refusal x
 
 -- ---- what the line reader found
 
@@ -107,20 +115,20 @@ two_values (x ∷ []) a b l p q = absurd (omega arith)
 two_values (x ∷ y ∷ []) a b l p q = cc
 two_values (x ∷ y ∷ z ∷ v) a b l p q = absurd (omega arith)
 
--- a row of k + 1 values was read; the first of its checks that fails decides
-pub record ToChecks (k : ℕ) (t : List ℕ) (checks : List Check) (answer : Answer RowRest) (a b c d e next : ℕ) : Type 0 where
-  pub is : answer ≡ checked checks (gives (row_rest (take (suc k) (a ∷ b ∷ c ∷ d ∷ e ∷ [])) (drop next t)))
+-- a row of these values was read; the first of its checks that fails decides
+pub record ToChecks (t : List ℕ) (checks : List Check) (answer : Answer RowRest) (values : List ℕ) (next : ℕ) : Type 0 where
+  pub is : answer ≡ checked checks (gives (row_rest values (drop next t)))
   pub inside : next ≤ length t
 
-module _ {k : ℕ} {t : List ℕ} {answer : Answer RowRest} {a b c d e next : ℕ} where
-  module _ {holds : Bool} {n : ℕ} {carries : List ℕ} {checks : List Check} (h : ToChecks k t (must holds n carries ∷ checks) answer a b c d e next) where
-    pub check_passed : holds ≡ true → ToChecks k t checks answer a b c d e next
+module _ {t : List ℕ} {answer : Answer RowRest} {values : List ℕ} {next : ℕ} where
+  module _ {holds : Bool} {n : ℕ} {carries : List ℕ} {checks : List Check} (h : ToChecks t (must holds n carries ∷ checks) answer values next) where
+    pub check_passed : holds ≡ true → ToChecks t checks answer values next
     check_passed is = record { is = rw is at h.is; inside = h.inside }
 
     pub check_fails : holds ≡ false → answer ≡ refuses n carries
     check_fails is = rw is at h.is
 
-  pub all_passed : ToChecks k t [] answer a b c d e next → RowTo k t answer a b c d e next
+  pub all_passed : ToChecks t [] answer values next → RowTo t answer values next
   all_passed h = record { is = h.is; inside = h.inside }
 
 module _ (t : List ℕ) (line : ℕ) (checks : List ℕ → List Check) (s : List ℕ) where
@@ -129,17 +137,17 @@ module _ (t : List ℕ) (line : ℕ) (checks : List ℕ → List Check) (s : Lis
       ap (λ (p : Parsed (List ℕ)). or_refuse 2 line p λ r q. checked (checks r) (gives (row_rest r q))) (row_got line (row k s) v (drop next t) f)
       ∙ ap (λ (v : List ℕ). checked (checks v) (gives (row_rest v (drop next t)))) same
 
-  pub two_checks : {a b c d e next : ℕ} → RowAt t (row_found line (row 1 s)) a b c d e next → ToChecks 1 t (checks (a ∷ b ∷ [])) (read_row 1 line checks s) a b c d e next
+  pub two_checks : {a b c d e next : ℕ} → RowAt t (row_found line (row 1 s)) a b c d e next → ToChecks t (checks (a ∷ b ∷ [])) (read_row 1 line checks s) (a ∷ b ∷ []) next
   two_checks {a} {b} {c} {d} {e} {next} h =
       let values = two_values h.values a b (row_read 1 s h.values (drop next t) (row_got line (row 1 s) h.values (drop next t) h.is)).count h.first h.second in
       record { is = to_checks next 1 h.values (a ∷ b ∷ []) h.is values; inside = h.inside }
 
-  pub three_checks : {a b c d e next : ℕ} → RowAt t (row_found line (row 2 s)) a b c d e next → ToChecks 2 t (checks (a ∷ b ∷ c ∷ [])) (read_row 2 line checks s) a b c d e next
+  pub three_checks : {a b c d e next : ℕ} → RowAt t (row_found line (row 2 s)) a b c d e next → ToChecks t (checks (a ∷ b ∷ c ∷ [])) (read_row 2 line checks s) (a ∷ b ∷ c ∷ []) next
   three_checks {a} {b} {c} {d} {e} {next} h =
       let values = three_values h.values a b c (row_read 2 s h.values (drop next t) (row_got line (row 2 s) h.values (drop next t) h.is)).count h.first h.second h.third in
       record { is = to_checks next 2 h.values (a ∷ b ∷ c ∷ []) h.is values; inside = h.inside }
 
-  pub five_checks : {a b c d e next : ℕ} → RowAt t (row_found line (row 4 s)) a b c d e next → ToChecks 4 t (checks (a ∷ b ∷ c ∷ d ∷ e ∷ [])) (read_row 4 line checks s) a b c d e next
+  pub five_checks : {a b c d e next : ℕ} → RowAt t (row_found line (row 4 s)) a b c d e next → ToChecks t (checks (a ∷ b ∷ c ∷ d ∷ e ∷ [])) (read_row 4 line checks s) (a ∷ b ∷ c ∷ d ∷ e ∷ []) next
   five_checks {a} {b} {c} {d} {e} {next} h =
       let values = five_values h.values a b c d e (row_read 4 s h.values (drop next t) (row_got line (row 4 s) h.values (drop next t) h.is)).count h.first h.second h.third h.fourth h.fifth in
       record { is = to_checks next 4 h.values (a ∷ b ∷ c ∷ d ∷ e ∷ []) h.is values; inside = h.inside }
@@ -152,13 +160,36 @@ position-take numbers n x h =
     ap (λ k. lowest k λ i. eqb (get_or (take n numbers) i 0) x) (length-take-le n numbers h)
     ∙ lowest_ext n (λ i. eqb (get_or (take n numbers) i 0) x) (λ i. eqb (get_or numbers i 0) x) (λ i l. ap (λ v. eqb v x) (get_or-take n numbers i 0 l))
 
--- ---- where rows may end: a row of k + 1 values, or that they end here, which `ends` says of the text
+-- the positions of two that are listed and differ, or that they are not both, or are one
+abbrev pub both_listed : List ℕ → ℕ → ℕ → Bool
+both_listed numbers to from = is_listed numbers to && is_listed numbers from && not (eqb to from)
 
-abbrev pub ReadsOrEnds : ℕ → Bool → List ℕ → Answer RowRest → Line → Type 0
-ReadsOrEnds k ends t answer (Names next) = ends ≡ true
-ReadsOrEnds k ends t answer (Row a b c d e next) = RowTo k t answer a b c d e next
-ReadsOrEnds k ends t answer End = ends ≡ true
-ReadsOrEnds k ends t answer (Refused r) = (answer ≡ refusal r) × (ends ≡ false)
+abbrev pub BothLocated : List ℕ → ℕ → ℕ → Option (ℕ × ℕ) → Type 0
+BothLocated numbers to from (Some p) = (both_listed numbers to from ≡ true) × ((p.0 ≡ position numbers to) × (p.1 ≡ position numbers from))
+BothLocated numbers to from None = both_listed numbers to from ≡ false
+
+-- ---- where rows may end: a row, or that they end here, which `ends` says of the text
+
+-- the move stands at the positions of its trains
+pub record MoveTo (numbers t : List ℕ) (answer : Answer RowRest) (r : MoveRow) : Type 0 where
+  pub row : RowTo t answer (move_values r) r.next
+  pub to : r.i ≡ position numbers r.to
+  pub from : r.j ≡ position numbers r.from
+
+abbrev pub ReadsMove : List ℕ → Bool → List ℕ → Answer RowRest → Result (Option MoveRow) Refusal → Type 0
+ReadsMove numbers ends t answer (Ok (Some r)) = MoveTo numbers t answer r
+ReadsMove numbers ends t answer (Ok None) = ends ≡ true
+ReadsMove numbers ends t answer (Err x) = (answer ≡ refusal x) × (ends ≡ false)
+
+-- the row of a group stands at the position of its train
+pub record MemberTo (numbers t : List ℕ) (answer : Answer RowRest) (r : GroupRow) : Type 0 where
+  pub row : RowTo t answer (group_values r) r.next
+  pub train : r.i ≡ position numbers r.train
+
+abbrev pub ReadsMember : List ℕ → Bool → List ℕ → Answer RowRest → Result (Option GroupRow) Refusal → Type 0
+ReadsMember numbers ends t answer (Ok (Some r)) = MemberTo numbers t answer r
+ReadsMember numbers ends t answer (Ok None) = ends ≡ true
+ReadsMember numbers ends t answer (Err x) = (answer ≡ refusal x) × (ends ≡ false)
 
 abbrev pub NoRow : Found → Type 0
 NoRow (a_names_line s) = Unit
@@ -205,8 +236,8 @@ module _ (line : ℕ) where
   group_found word [] = tt
   group_found word (c ∷ s) = refl
 
--- ---- a step goes on at a place of the text t, or stops with a refusal
+-- ---- a names line was read up to a place of the text t, or the refusal
 
-abbrev pub NamesTo : List ℕ → Answer (List ℕ) → Step → Type 0
-NamesTo t answer (Next p) = (answer ≡ gives (drop p t)) × (p ≤ length t)
-NamesTo t answer (Stopped x) = answer ≡ refusal x
+abbrev pub NamesTo : List ℕ → Answer (List ℕ) → Result ℕ Refusal → Type 0
+NamesTo t answer (Ok p) = (answer ≡ gives (drop p t)) × (p ≤ length t)
+NamesTo t answer (Err x) = answer ≡ refusal x

@@ -4,57 +4,92 @@
 // apart, asks the conditions of the row in their order, and else hands the refusal up. Assumes nothing.
 #![tactic(auto)]
 
-ghost use Rattle.std.specs.Prelude.{◌≡◌, ◌&&◌, ◌||◌, [], ◌∷◌, ◌≤◌, ltb, eqb, length, get_or, take, drop};
-ghost use Rattle.dayfile.specs.Reading.{head_checks, train_checks, move_checks, position, moves_end, read_names, read_row};
-ghost use Rattle.day_rows.specs.Steps.{ReadsRow, ReadsOrEnds, move_due, NamesTo, refusal_of};
+ghost use Rattle.std.specs.Prelude.{◌≡◌, ◌==◌, [], ◌∷◌, ◌≤◌, length, drop, position};
+ghost use Rattle.dayfile.specs.Reading.{head_checks, train_checks, move_checks, moves_end, read_names, read_row};
+ghost use Rattle.day_rows.specs.Steps.{BothLocated, ReadsHead, ReadsTrain, ReadsMove, move_due, NamesTo};
 ghost use Rattle.day_rows.specs.Members.{ReadsGroup};
 
-use day::{Limits, Refusal};
+use day::{Head, Limits, Refusal};
 use lines::{Due, Line};
 
-// The position, counted from 0, of the train number x among the first n, or n.
-pub fn position_of(numbers: &[u32], n: usize, x: u32) -> usize
-    requires { n ≤ length numbers.now }
-    ensures { (result ≡ position (take n numbers.now) x) × (result ≤ n) }
+// A place of a text, and the number of the line that begins there.
+#[derive(Clone, Copy, Debug, PartialEq, Eq)]
+pub struct Place {
+    pub at: usize,
+    pub line: usize,
+}
+
+// The row of the first section, and the place after it.
+#[derive(Clone, Copy, Debug, PartialEq, Eq)]
+pub struct HeadRow {
+    pub head: Head,
+    pub next: usize,
+}
+
+// A train's row: its number, the first and the last slot of its window, and the place after it.
+#[derive(Clone, Copy, Debug, PartialEq, Eq)]
+pub struct TrainRow {
+    pub number: u32,
+    pub first: u32,
+    pub last: u32,
+    pub next: usize,
+}
+
+// A move's row: its boxes go to one train from another, which stand at the positions i and j; and the place after it.
+#[derive(Clone, Copy, Debug, PartialEq, Eq)]
+pub struct MoveRow {
+    pub to: u32,
+    pub from: u32,
+    pub boxes: u32,
+    pub i: usize,
+    pub j: usize,
+    pub next: usize,
+}
+
+// A row of a group: the group and its train, which stands at the position i, and the place after it.
+#[derive(Clone, Copy, Debug, PartialEq, Eq)]
+pub struct GroupRow {
+    pub group: u32,
+    pub train: u32,
+    pub i: usize,
+    pub next: usize,
+}
+
+// The position, counted from 0, of a train number among those listed, or None where it is not there.
+pub fn position_of(numbers: &[u32], x: u32) -> Option<usize>
+    ensures { result ≡ position (λ number. number == x) numbers.now }
 {
-    for i in 0..n {
-        if numbers[i] == x {
-            return i;
-        }
+    numbers.iter().position(|&number| number == x)
+}
+
+// The positions of the two trains of a move, or None where one is not listed, or they are one.
+fn positions_of(numbers: &[u32], to: u32, from: u32) -> Option<(usize, usize)>
+    ensures { BothLocated numbers.now to from result }
+{
+    let i = position_of(numbers, to)?;
+    let j = position_of(numbers, from)?;
+    if to == from {
+        return None;
     }
-    n
-}
-
-// Whether the pair (a, b) of a row comes after that of the row before, by its first value and then by its second.
-fn is_pair_after(a0: u32, b0: u32, a: u32, b: u32) -> bool
-    ensures { result ≡ (ltb a0 a || (eqb a0 a && ltb b0 b)) }
-{
-    (a0 < a) | ((a0 == a) & (b0 < b))
-}
-
-// Whether position i is one of the first n and in no group.
-fn is_free(groups: &[u8], n: usize, i: usize) -> bool
-    requires { n ≤ length groups.now }
-    ensures { result ≡ (ltb i n && eqb (get_or groups.now i 0) 0) }
-{
-    if i < n { groups[i] == 0 } else { false }
+    Some((i, j))
 }
 
 // Reads the row of the first section: its form, then its limits (3).
-pub fn read_head_row(l: Limits, text: &[u8], at: usize) -> Line
-    ensures { ReadsRow 4 text.now (read_row 4 2 (head_checks l) (drop at text.now)) result }
+// Stays: limits and text are two parameters, here, below and in the sections above, and no struct that lends the text: a contract would
+// name each by `file.entry.limits` and `file.entry.text.now`.
+pub fn read_head_row(l: Limits, text: &[u8], at: usize) -> Result<HeadRow, Refusal>
+    ensures { ReadsHead text.now (read_row 4 2 (head_checks l) (drop at text.now)) result }
 {
-    let row = lines::read_line(text, at, 2, Due::RowOfFive, b"");
     let Line::Row {
         a: trains,
         b: tracks,
         c: slots,
         d: revisit,
         e: split,
-        next: _,
-    } = row
+        next,
+    } = lines::read_line(text, at, 2, Due::RowOfFive, b"")?
     else {
-        return row;
+        unreachable!()
     };
     if !day::head_within(
         l,
@@ -64,37 +99,53 @@ pub fn read_head_row(l: Limits, text: &[u8], at: usize) -> Line
         revisit as u64,
         split as u64,
     ) {
-        return Line::Refused(Refusal::OutOfLimits(2));
+        return Err(Refusal::OutOfLimits(2));
     }
-    row
+    let head = Head {
+        trains: trains as usize,
+        tracks,
+        slots: slots as u8,
+        revisit,
+        split,
+    };
+    Ok(HeadRow { head, next })
 }
 
 // Reads a train's row: its form, then its limits (3), then 4 and 5. `before` is the train number of the row before, 0 at the first.
-pub fn read_train(l: Limits, text: &[u8], at: usize, line: usize, slots: u32, before: u32) -> Line
-    ensures { ReadsRow 2 text.now (read_row 2 line (train_checks l slots before line) (drop at text.now)) result }
+pub fn read_train(
+    l: Limits,
+    text: &[u8],
+    place: Place,
+    slots: u32,
+    before: u32,
+) -> Result<TrainRow, Refusal>
+    ensures { ReadsTrain text.now (read_row 2 place.line (train_checks l slots before place.line) (drop place.at text.now)) result }
 {
-    let row = lines::read_line(text, at, line, Due::RowOfThree, b"");
     let Line::Row {
         a: number,
         b: first,
         c: last,
-        d: _,
-        e: _,
-        next: _,
-    } = row
+        next,
+        ..
+    } = lines::read_line(text, place.at, place.line, Due::RowOfThree, b"")?
     else {
-        return row;
+        unreachable!()
     };
     if !day::train_within(l, slots as u64, number as u64, first as u64, last as u64) {
-        return Line::Refused(Refusal::OutOfLimits(line));
+        return Err(Refusal::OutOfLimits(place.line));
     }
     if number <= before {
-        return Line::Refused(Refusal::NumberOrder(line));
+        return Err(Refusal::NumberOrder(place.line));
     }
     if last < first {
-        return Line::Refused(Refusal::WindowOrder(line));
+        return Err(Refusal::WindowOrder(place.line));
     }
-    row
+    Ok(TrainRow {
+        number,
+        first,
+        last,
+        next,
+    })
 }
 
 // What is due where a move may stand: where the limits have groups, their names line ends the moves, as the end of the text does.
@@ -108,120 +159,100 @@ fn move_due(l: Limits) -> Due
     }
 }
 
-// Reads a move's row: its form, then its limits (3), then 6 and 7; what ends the moves is handed up as it is. (to0, from0) is the pair of
-// the row before, zeros at the first.
+// Reads a move's row: its form, then its limits (3), then 6 and 7; None where the moves end. `numbers` has the trains listed, `before` the
+// two trains of the row before, zeros at the first.
 pub fn read_move(
     l: Limits,
     text: &[u8],
-    at: usize,
-    line: usize,
+    place: Place,
     numbers: &[u32],
-    n: usize,
-    to0: u32,
-    from0: u32,
-) -> Line
-    requires { n ≤ length numbers.now }
-    ensures { ReadsOrEnds 2 (moves_end l (drop at text.now)) text.now (read_row 2 line (move_checks l (take n numbers.now) (to0 ∷ from0 ∷ 0 ∷ []) line) (drop at text.now)) result }
+    before: (u32, u32),
+) -> Result<Option<MoveRow>, Refusal>
+    ensures { ReadsMove numbers.now (moves_end l (drop place.at text.now)) text.now (read_row 2 place.line (move_checks l numbers.now (before.0 ∷ before.1 ∷ 0 ∷ []) place.line) (drop place.at text.now)) result }
 {
-    let row = lines::read_line(text, at, line, move_due(l), &dayfile::GROUP_NAMES);
     let Line::Row {
         a: to,
         b: from,
         c: boxes,
-        d: _,
-        e: _,
-        next: _,
-    } = row
+        next,
+        ..
+    } = lines::read_line(
+        text,
+        place.at,
+        place.line,
+        move_due(l),
+        &dayfile::GROUP_NAMES,
+    )?
     else {
-        return row;
+        return Ok(None);
     };
     if !day::move_within(l, to as u64, from as u64, boxes as u64) {
-        return Line::Refused(Refusal::OutOfLimits(line));
+        return Err(Refusal::OutOfLimits(place.line));
     }
-    let i = position_of(numbers, n, to);
-    let j = position_of(numbers, n, from);
-    if !((i < n) & (j < n) & (to != from)) {
-        return Line::Refused(Refusal::UnknownTrain(line));
+    let Some((i, j)) = positions_of(numbers, to, from) else {
+        return Err(Refusal::UnknownTrain(place.line));
+    };
+    if !(before < (to, from)) {
+        return Err(Refusal::PairOrder(place.line));
     }
-    if !is_pair_after(to0, from0, to, from) {
-        return Line::Refused(Refusal::PairOrder(line));
-    }
-    row
+    Ok(Some(MoveRow {
+        to,
+        from,
+        boxes,
+        i,
+        j,
+        next,
+    }))
 }
 
 // Reads a row of a group: its form, then its limits (3), then 15, which the train gets that is unlisted or in a group already and a pair
-// out of order; the end of the text is handed up as it is. `groups` holds the groups so far, 0 where there is none; (group0, train0) is
-// the pair of the row before, zeros at the first.
+// out of order; None where the text ends. `numbers` has the trains listed, `groups` their groups so far, 0 where there is none, `before`
+// the group and the train of the row before, zeros at the first.
 pub fn read_group(
     l: Limits,
     text: &[u8],
-    at: usize,
-    line: usize,
+    place: Place,
     numbers: &[u32],
-    n: usize,
     groups: &[u8],
-    group0: u32,
-    train0: u32,
-) -> Line
-    requires { (n ≤ length numbers.now) × (n ≤ length groups.now) }
-    ensures { ReadsGroup l (take n numbers.now) groups.now (group0 ∷ train0 ∷ []) line text.now (drop at text.now) result }
+    before: (u32, u32),
+) -> Result<Option<GroupRow>, Refusal>
+    requires { length numbers.now ≤ length groups.now }
+    ensures { ReadsGroup l numbers.now groups.now (before.0 ∷ before.1 ∷ []) place.line text.now (drop place.at text.now) result }
 {
-    let row = lines::read_line(text, at, line, Due::PairOrEnd, b"");
     let Line::Row {
         a: group,
         b: train,
-        c: _,
-        d: _,
-        e: _,
-        next: _,
-    } = row
+        next,
+        ..
+    } = lines::read_line(text, place.at, place.line, Due::PairOrEnd, b"")?
     else {
-        return row;
+        return Ok(None);
     };
     if !day::group_within(l, group as u64, train as u64) {
-        return Line::Refused(Refusal::OutOfLimits(line));
+        return Err(Refusal::OutOfLimits(place.line));
     }
-    let i = position_of(numbers, n, train);
-    let free = is_free(groups, n, i);
-    if !(free & is_pair_after(group0, train0, group, train)) {
-        return Line::Refused(Refusal::GroupRow(line));
+    let Some(i) = position_of(numbers, train) else {
+        return Err(Refusal::GroupRow(place.line));
+    };
+    let is_free = groups[i] == 0;
+    let is_later = before < (group, train);
+    if !(is_free & is_later) {
+        return Err(Refusal::GroupRow(place.line));
     }
-    row
+    Ok(Some(GroupRow {
+        group,
+        train,
+        i,
+        next,
+    }))
 }
 
-// The refusal to hand up where the line due was not found: the one that the line gives. A line of another kind than the one due is
-// never found there; for such a line it would be `due`.
-pub fn refusal_of(found: Line, due: Refusal) -> Refusal
-    ensures { result ≡ refusal_of found due }
-{
-    match found {
-        Line::Refused(refusal) => refusal,
-        _ => due,
-    }
-}
-
-// The place after a section, or the refusal.
-#[derive(Clone, Copy)]
-pub enum Step {
-    Next(usize),
-    Refused(Refusal),
-}
-
-// Reads a names line.
-pub fn read_names(text: &[u8], at: usize, line: usize, word: &[u8]) -> Step
+// Reads a names line: the place after it.
+pub fn read_names(text: &[u8], at: usize, line: usize, word: &[u8]) -> Result<usize, Refusal>
     ensures { NamesTo text.now (read_names word.now line (drop at text.now)) result }
 {
-    let found = lines::read_line(text, at, line, Due::NamesLine, word);
-    let Line::Names { next } = found else {
-        return Step::Refused(refusal_of(found, Refusal::NamesLine(line)));
+    let Line::Names { next } = lines::read_line(text, at, line, Due::NamesLine, word)? else {
+        unreachable!()
     };
-    Step::Next(next)
-}
-
-// A value that is known to fit a byte.
-pub fn narrow(x: u32) -> u8
-    requires { x ≤ 255 }
-    ensures { result ≡ x }
-{
-    x as u8
+    Ok(next)
 }

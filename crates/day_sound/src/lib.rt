@@ -1,201 +1,134 @@
 // Whether a day is sound: some day file reads to it.
 //
 // Proved: `is_sound` is the definition `sound` of day's Sound.antt for every record, sound or not. A record's parts are tested by functions
-// over slices, a width and limits, so that records of other sizes use them too. Assumes nothing.
+// over a lent day of any size, so that records of other sizes use them too. Assumes nothing.
 #![tactic(auto)]
 
-ghost use Rattle.std.specs.Prelude.{◌≡◌, [], ◌∷◌, ◌≤◌, ◌<◌, ◌*◌, length};
+ghost use Rattle.std.specs.Prelude.{◌≡◌, [], ◌∷◌, ◌<◌, length};
 ghost use Rattle.fold.specs.Fold.{each};
-ghost use Rattle.model.specs.Cells.{InTable};
-ghost use Rattle.day.specs.Sound.{day_limits, yard, day_from, within, head_ranges, number_before, train_sound, unused, position_sound, group_sound, pair_sound, receiver_sound, sound};
+ghost use Rattle.day.specs.Parts.{part_yard, IsShaped};
+ghost use Rattle.day.specs.Sound.{day_limits, yard, within, head_ranges, number_before, train_sound, unused, position_sound, group_sound, pair_sound, receiver_sound, sound};
 
-use day::{Day, Head, Limits};
+use day::{Day, Parts};
 
 // The train number before position i, 0 before the first.
 fn number_before(numbers: &[u32], i: usize) -> u32
     requires { i < length numbers.now }
     ensures { result ≡ number_before numbers.now i }
 {
-    if i == 0 {
-        return 0;
-    }
-    let k = i - 1;
-    numbers[k]
+    if i == 0 { 0 } else { numbers[i - 1] }
 }
 
 // Position i of a train: its fields lie in their ranges, its number rises, its window is in order.
-fn train_sound(l: Limits, slots: u8, numbers: &[u32], first: &[u8], last: &[u8], i: usize) -> bool
-    requires { (i < length numbers.now) × (i < length first.now) × (i < length last.now) }
-    ensures { result ≡ train_sound l slots numbers.now first.now last.now i }
+fn train_sound(p: &Parts, i: usize) -> bool
+    requires { IsShaped p.now × (i < p.now.limits.trains) }
+    ensures { result ≡ train_sound p.now.limits p.now.head.slots p.now.numbers.now p.now.first.now p.now.last.now i }
 {
     day::train_within(
-        l,
-        day::wide8(slots),
-        day::wide32(numbers[i]),
-        day::wide8(first[i]),
-        day::wide8(last[i]),
-    ) & (number_before(numbers, i) < numbers[i])
-        & (first[i] <= last[i])
+        p.limits,
+        u64::from(p.head.slots),
+        u64::from(p.numbers[i]),
+        u64::from(p.first[i]),
+        u64::from(p.last[i]),
+    ) & (number_before(p.numbers, i) < p.numbers[i])
+        & (p.first[i] <= p.last[i])
 }
 
-fn is_unused(numbers: &[u32], first: &[u8], last: &[u8], i: usize) -> bool
-    requires { (i < length numbers.now) × (i < length first.now) × (i < length last.now) }
-    ensures { result ≡ unused numbers.now first.now last.now i }
+fn is_unused(p: &Parts, i: usize) -> bool
+    requires { IsShaped p.now × (i < p.now.limits.trains) }
+    ensures { result ≡ unused p.now.numbers.now p.now.first.now p.now.last.now i }
 {
-    (numbers[i] == 0) & (first[i] == 0) & (last[i] == 0)
+    (p.numbers[i] == 0) & (p.first[i] == 0) & (p.last[i] == 0)
 }
 
-fn position_sound(
-    l: Limits,
-    n: usize,
-    slots: u8,
-    numbers: &[u32],
-    first: &[u8],
-    last: &[u8],
-    i: usize,
-) -> bool
-    requires { (i < length numbers.now) × (i < length first.now) × (i < length last.now) }
-    ensures { result ≡ position_sound l n slots numbers.now first.now last.now i }
+fn position_sound(p: &Parts, i: usize) -> bool
+    requires { IsShaped p.now × (i < p.now.limits.trains) }
+    ensures { result ≡ position_sound p.now.limits p.now.head.trains p.now.head.slots p.now.numbers.now p.now.first.now p.now.last.now i }
 {
-    if i < n {
-        train_sound(l, slots, numbers, first, last, i)
+    if i < p.head.trains {
+        train_sound(p, i)
     } else {
-        is_unused(numbers, first, last, i)
+        is_unused(p, i)
     }
 }
 
-fn positions_sound(
-    l: Limits,
-    n: usize,
-    slots: u8,
-    numbers: &[u32],
-    first: &[u8],
-    last: &[u8],
-) -> bool
-    requires { (l.trains ≤ length numbers.now) × (l.trains ≤ length first.now) × (l.trains ≤ length last.now) }
-    ensures { result ≡ each l.trains (position_sound l n slots numbers.now first.now last.now) }
+fn positions_sound(p: &Parts) -> bool
+    requires { IsShaped p.now }
+    ensures { result ≡ each p.now.limits.trains (position_sound p.now.limits p.now.head.trains p.now.head.slots p.now.numbers.now p.now.first.now p.now.last.now) }
 {
-    let all = l.trains;
-    for i in 0..all {
-        if !position_sound(l, n, slots, numbers, first, last, i) {
-            return false;
-        }
-    }
-    true
+    (0..p.limits.trains).all(|i| position_sound(p, i))
 }
 
 // Boxes pass between two different trains, and keep their limit.
-fn pair_sound(l: Limits, n: usize, width: usize, boxes: &[u8], i: usize, j: usize) -> bool
-    requires { InTable width boxes.now i j }
-    ensures { result ≡ pair_sound l n width boxes.now i j }
+fn pair_sound(p: &Parts, i: usize, j: usize) -> bool
+    requires { IsShaped p.now × (i < p.now.limits.trains) × (j < p.now.limits.trains) }
+    ensures { result ≡ pair_sound p.now.limits p.now.head.trains p.now.limits.trains p.now.boxes.now i j }
 {
-    let b = day::cell_at(boxes, width, i, j);
-    if (i < n) & (j < n) & (i != j) {
-        b <= l.boxes
+    let boxes = day::cell_at(p.boxes, p.limits.trains, i, j);
+    if (i < p.head.trains) & (j < p.head.trains) & (i != j) {
+        boxes <= p.limits.boxes
     } else {
-        b == 0
+        boxes == 0
     }
 }
 
-fn receiver_sound(l: Limits, n: usize, width: usize, boxes: &[u8], i: usize) -> bool
-    requires { (l.trains ≤ width) × ((i < width) × (width * width ≤ length boxes.now)) }
-    ensures { result ≡ receiver_sound l n width boxes.now i }
+fn receiver_sound(p: &Parts, i: usize) -> bool
+    requires { IsShaped p.now × (i < p.now.limits.trains) }
+    ensures { result ≡ receiver_sound p.now.limits p.now.head.trains p.now.limits.trains p.now.boxes.now i }
 {
-    let all = l.trains;
-    for j in 0..all {
-        if !pair_sound(l, n, width, boxes, i, j) {
-            return false;
-        }
-    }
-    true
+    (0..p.limits.trains).all(|j| pair_sound(p, i, j))
 }
 
-fn boxes_sound(l: Limits, n: usize, width: usize, boxes: &[u8]) -> bool
-    requires { (l.trains ≤ width) × (width * width ≤ length boxes.now) }
-    ensures { result ≡ each l.trains (receiver_sound l n width boxes.now) }
+fn boxes_sound(p: &Parts) -> bool
+    requires { IsShaped p.now }
+    ensures { result ≡ each p.now.limits.trains (receiver_sound p.now.limits p.now.head.trains p.now.limits.trains p.now.boxes.now) }
 {
-    let all = l.trains;
-    for i in 0..all {
-        if !receiver_sound(l, n, width, boxes, i) {
-            return false;
-        }
-    }
-    true
+    (0..p.limits.trains).all(|i| receiver_sound(p, i))
 }
 
 // Position i is in no group or in one of the limits' numbers, and in none where it holds no train.
-fn group_sound(l: Limits, n: usize, groups: &[u8], i: usize) -> bool
-    requires { i < length groups.now }
-    ensures { result ≡ group_sound l n groups.now i }
+fn group_sound(p: &Parts, i: usize) -> bool
+    requires { IsShaped p.now × (i < p.now.limits.trains) }
+    ensures { result ≡ group_sound p.now.limits p.now.head.trains p.now.groups.now i }
 {
-    if i < n {
-        groups[i] <= l.groups
+    if i < p.head.trains {
+        p.groups[i] <= p.limits.groups
     } else {
-        groups[i] == 0
+        p.groups[i] == 0
     }
 }
 
-fn groups_sound(l: Limits, n: usize, groups: &[u8]) -> bool
-    requires { l.trains ≤ length groups.now }
-    ensures { result ≡ each l.trains (group_sound l n groups.now) }
+fn groups_sound(p: &Parts) -> bool
+    requires { IsShaped p.now }
+    ensures { result ≡ each p.now.limits.trains (group_sound p.now.limits p.now.head.trains p.now.groups.now) }
 {
-    let all = l.trains;
-    for i in 0..all {
-        if !group_sound(l, n, groups, i) {
-            return false;
-        }
-    }
-    true
+    (0..p.limits.trains).all(|i| group_sound(p, i))
 }
 
-fn is_head_sound(l: Limits, head: Head) -> bool
-    ensures { result ≡ within (head_ranges l) (head.trains ∷ head.tracks ∷ head.slots ∷ head.revisit ∷ head.split ∷ []) }
+fn is_head_sound(p: &Parts) -> bool
+    ensures { result ≡ within (head_ranges p.now.limits) (p.now.head.trains ∷ p.now.head.tracks ∷ p.now.head.slots ∷ p.now.head.revisit ∷ p.now.head.split ∷ []) }
 {
     day::head_within(
-        l,
-        head.trains as u64,
-        head.tracks as u64,
-        head.slots as u64,
-        head.revisit as u64,
-        head.split as u64,
+        p.limits,
+        p.head.trains as u64,
+        u64::from(p.head.tracks),
+        u64::from(p.head.slots),
+        u64::from(p.head.revisit),
+        u64::from(p.head.split),
     )
 }
 
-// Whether a day is sound that is given by its head, four columns and a table of boxes, each as long as the limits say.
-pub fn is_file_sound(
-    l: Limits,
-    head: Head,
-    numbers: &[u32],
-    first: &[u8],
-    last: &[u8],
-    groups: &[u8],
-    boxes: &[u8],
-) -> bool
-    requires { (length numbers.now ≡ l.trains) × ((length first.now ≡ l.trains) × ((length last.now ≡ l.trains) × ((length groups.now ≡ l.trains) × (length boxes.now ≡ l.trains * l.trains)))) }
-    ensures { result ≡ sound l (day_from head numbers.now first.now last.now groups.now l.trains boxes.now) }
+// Whether a lent day is sound whose columns and table are as long as its limits say.
+pub fn is_file_sound(p: &Parts) -> bool
+    requires { IsShaped p.now }
+    ensures { result ≡ sound p.now.limits (part_yard p.now) }
 {
-    is_head_sound(l, head)
-        & positions_sound(l, head.trains, head.slots, numbers, first, last)
-        & boxes_sound(l, head.trains, l.trains, boxes)
-        & groups_sound(l, head.trains, groups)
+    is_head_sound(p) & positions_sound(p) & boxes_sound(p) & groups_sound(p)
 }
 
 // Whether a record is sound: some day file reads to it. For every record, sound or not.
 pub fn is_sound(day: Day) -> bool
     ensures { result ≡ sound day_limits (yard day) }
 {
-    let numbers = day.numbers;
-    let first = day.first;
-    let last = day.last;
-    let groups = day.groups;
-    let boxes = day.boxes;
-    is_file_sound(
-        day::day_limits(),
-        day::head_of(day),
-        &numbers,
-        &first,
-        &last,
-        &groups,
-        &boxes,
-    )
+    is_file_sound(&day.parts())
 }

@@ -1,10 +1,13 @@
 -- The laws that the proofs of writing cite: the rows of boxes, and the text of a day in its sections.
 -- Assumes nothing.
-use Rattle.std.specs.Prelude.{◌≡◌, List, [], ◌++◌, ℕ, ◌+◌, ◌*◌, ◌/◌, ◌%◌, ◌<◌, length, get_or}
+use Rattle.std.specs.Prelude.{◌≡◌, List, [], ◌++◌, ℕ, ◌+◌, ◌*◌, ◌/◌, ◌%◌, ◌<◌, T, length, get_or}
 use Rattle.std.proofs.Common.{ap, ◌∙◌, append_assoc, append-nil, ⊎_elim, mod-lt, div-lt_iff_lt-mul, eq-zero-or-pos, arith, length-append, eq-eqb, ne_eqb}
 use Rattle.model.specs.Model.{Yard}
 use Rattle.model.specs.Groups.{GroupsUpTo}
-use Rattle.day.specs.Sound.{head_row}
+use Rattle.day.specs.Parts.{part_yard}
+use Rattle.day.specs.Sound.{head_row, sound}
+use Rattle.day.specs.SoundLaws.{sound_is}
+use Rattle.day.specs.declared.Parts.{Parts}
 use Rattle.day.specs.declared.Limits.{Limits}
 use Rattle.decimal.specs.Place.{Put}
 use Rattle.decimal.specs.PlaceLaws.{put_text}
@@ -13,7 +16,7 @@ use Rattle.output.specs.Laws.{rows_listed, rows_joined}
 use Rattle.dayfile.specs.Writing.{file_text, move_row, move_rows, file_of_lem, day_text}
 use Rattle.groups_text.specs.Texts.{sets_text}
 use Rattle.groups_text.specs.Laws.{sets_text_lem}
-use Rattle.day_text.specs.Writes.{head_text, trains_text, move_text, moves_text}
+use Rattle.day_text.specs.Writes.{head_text, trains_text, move_text, moves_text, Writable}
 
 -- ---- the row of a place of the table
 
@@ -55,3 +58,17 @@ module _ (l : Limits) (y : Yard) (low : GroupsUpTo l.groups y.trains y.groups) w
       ≡ length (head_text (head_row y)) + length (trains_text y.numbers y.first y.last y.trains) + length (moves_text y.numbers y.width y.boxes)
       + length (sets_text l.groups y.trains y.numbers y.groups)
   day_length = ap length day_text_lem ∙ simp length-append
+
+-- a sound day can be written
+pub writable : (p : Parts) → T (sound p.limits (part_yard p)) → Writable p
+writable p t =
+    let is = sound_is p.limits (part_yard p) t in
+    record {
+      numbered = omega (arith, is.trains.1, is.shape.numbers);
+      firsts = omega (arith, is.trains.1, is.shape.first);
+      lasts = omega (arith, is.trains.1, is.shape.last);
+      members = omega (arith, is.trains.1, is.shape.groups);
+      places = omega (arith, is.shape.numbers);
+      table = omega (arith, is.shape.boxes);
+      low = is.groups;
+    }

@@ -4,8 +4,7 @@ use Rattle.std.specs.Prelude.{List, ◌++◌, ℕ, ◌*◌, ◌≤◌, length}
 use Rattle.fold.specs.Listed.{joined}
 use Rattle.model.specs.Groups.{GroupsUpTo}
 use Rattle.day.specs.Sound.{train_row}
-use Rattle.day.specs.declared.Head.{Head}
-use Rattle.day.specs.declared.Limits.{Limits}
+use Rattle.day.specs.declared.Parts.{Parts}
 use Rattle.lines.specs.Lines.{row_text, rows_text}
 use Rattle.dayfile.specs.Reading.{head_names, train_names, move_names}
 use Rattle.dayfile.specs.Writing.{move_rows}
@@ -28,12 +27,12 @@ move_text numbers width boxes q = rows_text (move_rows numbers width boxes q)
 abbrev pub moves_text : List ℕ → ℕ → List ℕ → List ℕ
 moves_text numbers width boxes = move_names ++ joined (width * width) (move_text numbers width boxes)
 
--- what writing asks of a day that is given by its head, four columns and a table of boxes
-pub record Writable (l : Limits) (head : Head) (numbers first last groups boxes : List ℕ) : Type 0 where
-  pub numbered : head.trains ≤ length numbers
-  pub firsts : head.trains ≤ length first
-  pub lasts : head.trains ≤ length last
-  pub members : head.trains ≤ length groups
-  pub places : l.trains ≤ length numbers
-  pub table : l.trains * l.trains ≤ length boxes
-  pub low : GroupsUpTo l.groups head.trains groups
+-- what writing asks of a lent day
+pub record Writable (p : Parts) : Type 0 where
+  pub numbered : p.head.trains ≤ length p.numbers.now
+  pub firsts : p.head.trains ≤ length p.first.now
+  pub lasts : p.head.trains ≤ length p.last.now
+  pub members : p.head.trains ≤ length p.groups.now
+  pub places : p.limits.trains ≤ length p.numbers.now
+  pub table : p.limits.trains * p.limits.trains ≤ length p.boxes.now
+  pub low : GroupsUpTo p.limits.groups p.head.trains p.groups.now

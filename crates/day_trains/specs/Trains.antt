@@ -1,6 +1,6 @@
 -- The trains of a day file as the code's loop reads them: what has been read so far, and what is left to read.
 -- Assumes nothing.
-use Rattle.std.specs.Prelude.{◌≡◌, refl, List, [], ◌∷◌, ◌++◌, map, length, get_or, set, drop}
+use Rattle.std.specs.Prelude.{◌≡◌, refl, List, [], ◌∷◌, ◌++◌, map, length, get_or, set, drop, Result, Ok, Err}
 use Rattle.std.proofs.Common.{sym, ap₂, ◌∙◌, append_assoc, append-nil, add-one, length-append, drop-cons}
 use Rattle.std.proofs.Math.Path.{ap}
 use Prim.Native.Nat.{ℕ, suc, ◌+◌, ◌-◌, ◌≤◌, ◌<◌}
@@ -14,8 +14,6 @@ use Rattle.day.specs.declared.Refusal.{Refusal}
 use Rattle.dayfile.specs.Reading.{field1, field2, field3, train_checks, RowRest, read_row, Rows, add_row, read_trains}
 use Rattle.dayfile.specs.LineLaws.{row-line_read}
 use Rattle.day_rows.specs.Steps.{row_rest, RowTo}
-use Rattle.day_rows.specs.declared.Step.{Step}
-use Rattle.day_rows.specs.declared.Step.TheVariants.{Next, Refused as Stopped}
 use Rattle.day_rows.specs.Joined.{add_rows, add_none, add_one_more}
 
 -- ---- a column of the rows at the front of a list
@@ -44,9 +42,9 @@ pub record TrainsSoFar (l : Limits) (slots n : ℕ) (t s numbers₀ first₀ las
   pub last_is_lem : last ≡ map field3 rows ++ drop i last₀
 
 -- a train's window lies in the slots
-pub train_window : (l : Limits) (slots : ℕ) (t : List ℕ) (line before : ℕ) (s : List ℕ) {a b c d e next : ℕ} → RowTo 2 t (read_row 2 line (train_checks l slots before line) s) a b c d e next → (b ≤ slots) × (c ≤ slots)
+pub train_window : (l : Limits) (slots : ℕ) (t : List ℕ) (line before : ℕ) (s : List ℕ) {a b c next : ℕ} → RowTo t (read_row 2 line (train_checks l slots before line) s) (a ∷ b ∷ c ∷ []) next → (b ≤ slots) × (c ≤ slots)
 unfolding train_ranges
-train_window l slots t line before s {a} {b} {c} {d} {e} {next} h =
+train_window l slots t line before s {a} {b} {c} {next} h =
     let w = row-line_read 2 line (train_checks l slots before line) s (row_rest (a ∷ b ∷ c ∷ []) (drop next t)) h.is in
     let (x, (y, (z, u))) = within_is (train_ranges l slots) (a ∷ b ∷ c ∷ []) w.holds.0 in
     (y.1, z.1)
@@ -75,10 +73,10 @@ module _ (l : Limits) (slots n : ℕ) (t : List ℕ) where
     pub trains_refused : (x : Refusal) → read_row 2 (4 + i) (train_checks l slots before (4 + i)) (drop p t) ≡ refusal x → read_trains l slots n 0 4 s ≡ refusal x
     trains_refused x e = turn ∙ rw e
 
-    pub trains_next : {a b c d e next : ℕ} → RowTo 2 t (read_row 2 (4 + i) (train_checks l slots before (4 + i)) (drop p t)) a b c d e next
+    pub trains_next : {a b c next : ℕ} → RowTo t (read_row 2 (4 + i) (train_checks l slots before (4 + i)) (drop p t)) (a ∷ b ∷ c ∷ []) next
         → i < length numbers₀ → i < length first₀ → i < length last₀
         → TrainsSoFar l slots n t s numbers₀ first₀ last₀ (set numbers i a) (set first i b) (set last i c) (i + 1) next a
-    trains_next {a} {b} {c} {d} {e} {next} h hn hf hl =
+    trains_next {a} {b} {c} {next} h hn hf hl =
         let r : List ℕ = a ∷ b ∷ c ∷ [] in
         let left : n - suc i ≡ n - (i + 1) = omega arith in
         let below : suc (4 + i) ≡ 4 + (i + 1) = omega arith in
@@ -106,9 +104,9 @@ pub record TrainsRead (l : Limits) (slots n : ℕ) (t : List ℕ) (answer : Answ
   pub first_is_lem : first ≡ map field2 rows ++ drop n first₀
   pub last_is_lem : last ≡ map field3 rows ++ drop n last₀
 
-abbrev pub TrainsTo : Limits → ℕ → ℕ → List ℕ → Answer Rows → List ℕ → List ℕ → List ℕ → List ℕ → List ℕ → List ℕ → Step → Type 0
-TrainsTo l slots n t answer numbers₀ first₀ last₀ numbers first last (Next p) = TrainsRead l slots n t answer numbers₀ first₀ last₀ numbers first last p
-TrainsTo l slots n t answer numbers₀ first₀ last₀ numbers first last (Stopped x) = answer ≡ refusal x
+abbrev pub TrainsTo : Limits → ℕ → ℕ → List ℕ → Answer Rows → List ℕ → List ℕ → List ℕ → List ℕ → List ℕ → List ℕ → Result ℕ Refusal → Type 0
+TrainsTo l slots n t answer numbers₀ first₀ last₀ numbers first last (Ok p) = TrainsRead l slots n t answer numbers₀ first₀ last₀ numbers first last p
+TrainsTo l slots n t answer numbers₀ first₀ last₀ numbers first last (Err x) = answer ≡ refusal x
 
 -- into columns that held zeros
 pub trains_into : {l : Limits} {slots n : ℕ} {t : List ℕ} {answer : Answer Rows} {numbers₀ first₀ last₀ numbers first last : List ℕ} {next : ℕ} (z : List ℕ)

@@ -6,25 +6,21 @@
 
 ghost use Rattle.std.specs.Prelude.{◌≤◌, ◌+◌, length, drop};
 ghost use Rattle.dayfile.specs.Reading.{read_trains, head_section, train_section};
-ghost use Rattle.day_rows.specs.Steps.{ReadsRow};
+ghost use Rattle.day_rows.specs.Steps.{ReadsHead};
 ghost use Rattle.day_trains.specs.Trains.{TrainsTo};
 
 use day::{Limits, Refusal};
-use day_rows::Step;
-use lines::Line;
+use day_rows::{HeadRow, Place};
 
 // Reads the first section.
-pub fn read_head(l: Limits, text: &[u8]) -> Line
-    ensures { ReadsRow 4 text.now (head_section l text.now) result }
+pub fn read_head(l: Limits, text: &[u8]) -> Result<HeadRow, Refusal>
+    ensures { ReadsHead text.now (head_section l text.now) result }
 {
-    let names = day_rows::read_names(text, 0, 1, &dayfile::HEAD_NAMES);
-    match names {
-        Step::Next(next) => day_rows::read_head_row(l, text, next),
-        Step::Refused(refusal) => Line::Refused(refusal),
-    }
+    let next = day_rows::read_names(text, 0, 1, &dayfile::HEAD_NAMES)?;
+    day_rows::read_head_row(l, text, next)
 }
 
-// Reads the rows of n trains into three columns.
+// Reads the rows of n trains into three columns, and gives the place after them.
 fn read_train_rows(
     l: Limits,
     text: &[u8],
@@ -34,36 +30,25 @@ fn read_train_rows(
     numbers: &mut [u32],
     first: &mut [u8],
     last: &mut [u8],
-) -> Step
+) -> Result<usize, Refusal>
     requires { (at ≤ length text.now) × ((slots ≤ 255) × ((n ≤ length numbers.old) × ((n ≤ length first.old) × (n ≤ length last.old)))) }
     ensures { TrainsTo l slots n text.now (read_trains l slots n 0 4 (drop at text.now)) numbers.old first.old last.old numbers.new first.new last.new result }
 {
     let mut p = at;
-    let mut before: u32 = 0;
+    let mut before = 0;
     for i in 0..n {
-        let line = 4 + i;
-        let row = day_rows::read_train(l, text, p, line, slots, before);
-        let Line::Row {
-            a,
-            b,
-            c,
-            d: _,
-            e: _,
-            next,
-        } = row
-        else {
-            return Step::Refused(day_rows::refusal_of(row, Refusal::RowForm(line)));
-        };
-        numbers[i] = a;
-        first[i] = day_rows::narrow(b);
-        last[i] = day_rows::narrow(c);
-        before = a;
-        p = next;
+        let place = Place { at: p, line: 4 + i };
+        let row = day_rows::read_train(l, text, place, slots, before)?;
+        numbers[i] = row.number;
+        first[i] = row.first as u8;
+        last[i] = row.last as u8;
+        before = row.number;
+        p = row.next;
     }
-    Step::Next(p)
+    Ok(p)
 }
 
-// Reads the section of n trains.
+// Reads the section of n trains, and gives the place after it.
 pub fn read_trains(
     l: Limits,
     text: &[u8],
@@ -73,13 +58,10 @@ pub fn read_trains(
     numbers: &mut [u32],
     first: &mut [u8],
     last: &mut [u8],
-) -> Step
+) -> Result<usize, Refusal>
     requires { (slots ≤ 255) × ((n ≤ length numbers.old) × ((n ≤ length first.old) × (n ≤ length last.old))) }
     ensures { TrainsTo l slots n text.now (train_section l slots n (drop at text.now)) numbers.old first.old last.old numbers.new first.new last.new result }
 {
-    let names = day_rows::read_names(text, at, 3, &dayfile::TRAIN_NAMES);
-    let Step::Next(next) = names else {
-        return names;
-    };
+    let next = day_rows::read_names(text, at, 3, &dayfile::TRAIN_NAMES)?;
     read_train_rows(l, text, next, slots, n, numbers, first, last)
 }

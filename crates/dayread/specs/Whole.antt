@@ -1,6 +1,6 @@
 -- The whole text: the sections, once read, give the day; a section that is refused gives the refusal beside zeros.
 -- Assumes nothing.
-use Rattle.std.specs.Prelude.{◌≡◌, List, [], ◌∷◌, ◌++◌, map, ℕ, zero, suc, ◌+◌, ◌-◌, ◌*◌, ◌≤◌, take, drop, replicate}
+use Rattle.std.specs.Prelude.{◌≡◌, List, [], ◌∷◌, ◌++◌, map, ℕ, zero, suc, ◌+◌, ◌-◌, ◌*◌, ◌≤◌, take, drop, replicate, Result, Ok, Err}
 use Rattle.std.proofs.Math.Path.{refl}
 use Rattle.std.proofs.Common.{sym, ap, ◌∙◌, arith}
 use Rattle.std.proofs.Math.ListN.{length}
@@ -13,31 +13,26 @@ use Rattle.day.specs.Sound.{day_from, head_ranges, zero_day}
 use Rattle.day.specs.SoundLaws.{within_is}
 use Rattle.day.specs.declared.Limits.{Limits}
 use Rattle.day.specs.declared.Refusal.{Refusal}
-use Rattle.day.specs.declared.Verdict.{Verdict}
-use Rattle.day.specs.declared.Verdict.TheVariants.{Accepted, Refused}
+use Rattle.day.specs.declared.Head.{Head}
 use Rattle.dayfile.specs.Reading.{field1, field2, field3, head_checks, head_names, read_names, read_row, head_section, train_section, move_section, group_section, File, read_file, padded, stored_moves, stored_groups, day_of, read_day}
 use Rattle.dayfile.specs.LineLaws.{row-line_read}
 use Rattle.dayfile.specs.Calls.{day_or_zero}
 use Rattle.day_rows.specs.Steps.{row_rest, RowTo}
 use Rattle.day_trains.specs.Trains.{TrainsRead}
-use Rattle.day_rows.specs.declared.Step.{Step}
-use Rattle.day_rows.specs.declared.Step.TheVariants.{Next, Refused as Stopped}
 use Rattle.day_moves.specs.Moves.{MovesRead}
 use Rattle.day_groups.specs.Groups.{GroupsTo, groups_into}
-use Rattle.dayread.specs.declared.FileRead.{FileRead}
-use Rattle.dayread.specs.declared.FileRead.TheVariants.{Accepted as Is, Refused as IsNot}
 
 -- ---- what the reading call answers
 
 -- the answer is what reading says, and the day beside it is the one read, or zeros
-abbrev pub Reads : Limits → List ℕ → Verdict → Yard → Type 0
+abbrev pub Reads : Limits → List ℕ → Result Unit Refusal → Yard → Type 0
 Reads l t verdict y = (judged verdict y ≡ read_day l t) × (y ≡ day_or_zero l (read_day l t))
 
 -- ---- a text read into columns and a table, for any limits
 
-abbrev pub FileTo : Limits → List ℕ → List ℕ → List ℕ → List ℕ → List ℕ → List ℕ → FileRead → Type 0
-FileTo l t numbers first last groups boxes (Is h) = read_day l t ≡ gives (day_from h numbers first last groups l.trains boxes)
-FileTo l t numbers first last groups boxes (IsNot x) = read_day l t ≡ refusal x
+abbrev pub FileTo : Limits → List ℕ → List ℕ → List ℕ → List ℕ → List ℕ → List ℕ → Result Head Refusal → Type 0
+FileTo l t numbers first last groups boxes (Ok h) = read_day l t ≡ gives (day_from h numbers first last groups l.trains boxes)
+FileTo l t numbers first last groups boxes (Err x) = read_day l t ≡ refusal x
 
 -- ---- the third section and the fourth, after n trains
 
@@ -59,9 +54,9 @@ pub record RestRead (l : Limits) (numbers : List ℕ) (n : ℕ) (s groups boxes 
   pub groups_are : groups ≡ stored_groups numbers (replicate l.trains 0) rest.groups
   pub boxes_are : boxes ≡ stored_moves numbers l.trains (replicate (l.trains * l.trains) 0) rest.moves
 
-abbrev pub RestTo : Limits → List ℕ → ℕ → List ℕ → List ℕ → List ℕ → Step → Type 0
-RestTo l numbers n s groups boxes (Next p) = RestRead l numbers n s groups boxes
-RestTo l numbers n s groups boxes (Stopped x) = rest_sections l numbers n s ≡ refusal x
+abbrev pub RestTo : Limits → List ℕ → ℕ → List ℕ → List ℕ → List ℕ → Result Unit Refusal → Type 0
+RestTo l numbers n s groups boxes (Ok u) = RestRead l numbers n s groups boxes
+RestTo l numbers n s groups boxes (Err x) = rest_sections l numbers n s ≡ refusal x
 
 module _ (l : Limits) (numbers : List ℕ) (n : ℕ) (s : List ℕ) where
   pub moves_stop : (x : Refusal) → move_section l numbers (4 + n) s ≡ refusal x → rest_sections l numbers n s ≡ refusal x
@@ -74,10 +69,10 @@ module _ (l : Limits) (numbers : List ℕ) (n : ℕ) (s : List ℕ) where
     line_after = let e : 5 + n + length m.rows ≡ k = omega (arith, m.line_is) in ap (λ line. group_section l numbers line (drop p t)) e
 
     -- so the groups decide
-    pub rest_to : {groups₀ : List ℕ} (groups : List ℕ) (r : Step) → GroupsTo numbers (group_section l numbers k (drop p t)) groups₀ groups r → groups₀ ≡ replicate l.trains 0
+    pub rest_to : {groups₀ : List ℕ} (groups : List ℕ) (r : Result Unit Refusal) → GroupsTo numbers (group_section l numbers k (drop p t)) groups₀ groups r → groups₀ ≡ replicate l.trains 0
         → RestTo l numbers n s groups boxes r
     unfolding rest_sections
-    rest_to groups (Next q) g zeros =
+    rest_to groups (Ok u) g zeros =
         let z = groups_into _ g zeros in
         record {
           rest = record { moves = m.rows; groups = z.rows };
@@ -85,7 +80,7 @@ module _ (l : Limits) (numbers : List ℕ) (n : ℕ) (s : List ℕ) where
           groups_are = z.groups_are;
           boxes_are = m.boxes_are;
         }
-    rest_to groups (Stopped x) e zeros = rw (m.is, line_after ∙ e)
+    rest_to groups (Err x) e zeros = rw (m.is, line_after ∙ e)
 
 -- two steps from an answer are one step from what the first makes of it
 given_after : {X Y Z : Type 0} (a : Answer X) (f : X → Answer Z) (g : X → Answer Y) (h : Y → Answer Z) → ((x : X) → f x ≡ on_given (g x) h)
@@ -112,7 +107,7 @@ pub record HeadLimits (l : Limits) (a c : ℕ) : Type 0 where
   pub trains : a ≤ l.trains
   pub slots : c ≤ l.slots
 
-pub head_limits : (l : Limits) (t s : List ℕ) {a b c d e next : ℕ} → RowTo 4 t (head_section l s) a b c d e next → HeadLimits l a c
+pub head_limits : (l : Limits) (t s : List ℕ) {a b c d e next : ℕ} → RowTo t (head_section l s) (a ∷ b ∷ c ∷ d ∷ e ∷ []) next → HeadLimits l a c
 unfolding head_ranges
 head_limits l t s {a} {b} {c} {d} {e} {next} h =
     given_then (read_names head_names 1 s) (read_row 4 2 (head_checks l)) h.is λ q x y.
@@ -135,7 +130,7 @@ module _ (l : Limits) (t : List ℕ) where
   unfolding read_day read_file
   head_stops x e = rw e
 
-  module _ {a b c d e next : ℕ} (h : RowTo 4 t (head_section l t) a b c d e next) where
+  module _ {a b c d e next : ℕ} (h : RowTo t (head_section l t) (a ∷ b ∷ c ∷ d ∷ e ∷ []) next) where
     pub trains_stop : (x : Refusal) → train_section l c a (drop next t) ≡ refusal x → read_day l t ≡ refusal x
     unfolding read_day read_file
     trains_stop x f = rw (h.is, f)
@@ -172,8 +167,8 @@ module _ (l : Limits) (t : List ℕ) where
 
 -- ---- the reading
 
-pub reads_refused : (l : Limits) (t : List ℕ) (x : Refusal) {y : Yard} → read_day l t ≡ refusal x → y ≡ zero_day l → Reads l t (Refused x) y
+pub reads_refused : (l : Limits) (t : List ℕ) (x : Refusal) {y : Yard} → read_day l t ≡ refusal x → y ≡ zero_day l → Reads l t (Err x) y
 reads_refused l t x {y} e f = (sym e, rw e f)
 
-pub reads_day : (l : Limits) (t : List ℕ) (y : Yard) → read_day l t ≡ gives y → Reads l t Accepted y
+pub reads_day : (l : Limits) (t : List ℕ) (y : Yard) → read_day l t ≡ gives y → Reads l t (Ok tt) y
 reads_day l t y e = (sym e, rw e)

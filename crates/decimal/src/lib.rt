@@ -5,21 +5,14 @@
 #![tactic(auto)]
 
 ghost use Rattle.std.specs.Prelude.{◌≡◌, ◌+◌, ◌-◌, ◌≤◌, length, drop};
-ghost use Rattle.decimal.specs.Decimal.{is_digit, value, digits};
+ghost use Rattle.decimal.specs.Decimal.{grows, value, digits};
 ghost use Rattle.decimal.specs.Place.{Answers, Put};
 
-// A value that was read and the place after it, or that none is there.
-#[derive(Clone, Copy)]
-pub enum Field {
-    Is { value: u32, next: usize },
-    Bad,
-}
-
-// Whether a byte is a digit.
-fn is_digit(c: u8) -> bool
-    ensures { result ≡ is_digit c }
-{
-    (48 <= c) & (c <= 57)
+// A value that was read, and the place after it.
+#[derive(Clone, Copy, Debug, PartialEq, Eq)]
+pub struct Field {
+    pub value: u32,
+    pub next: usize,
 }
 
 // The value of a digit.
@@ -27,34 +20,43 @@ fn digit_value(c: u8) -> u32
     requires { (48 ≤ c) × (c ≤ 57) }
     ensures { (result ≡ c - 48) × (result ≤ 9) }
 {
-    c as u32 - 48
+    u32::from(c - b'0')
 }
 
-// Reads the value at a place.
-pub fn read_value(text: &[u8], at: usize) -> Field
+// Whether a value may take one more digit: it is not 0, and has at most four.
+fn grows(value: u32) -> bool
+    ensures { result ≡ grows value }
+{
+    (1..=9999).contains(&value)
+}
+
+// Reads the value at a place, or None where there is none.
+#[tactic(auto, using(crate::specs::PlaceLaws::value_end, crate::specs::PlaceLaws::value_other))]
+pub fn read_value(text: &[u8], at: usize) -> Option<Field>
     ensures { Answers text.now (value (drop at text.now)) result }
 {
-    if text.len() <= at {
-        return Field::Bad;
+    let first = *text.get(at)?;
+    if !first.is_ascii_digit() {
+        return None;
     }
-    let first = text[at];
-    if !is_digit(first) {
-        return Field::Bad;
-    }
-    let mut v = digit_value(first);
-    let mut p = at + 1;
-    while p < text.len() {
-        let c = text[p];
-        if !is_digit(c) {
-            return Field::Is { value: v, next: p };
+    let mut value = digit_value(first);
+    let start = at + 1;
+    for (i, &c) in text[start..].iter().enumerate() {
+        if !c.is_ascii_digit() {
+            return Some(Field {
+                value,
+                next: start + i,
+            });
         }
-        if !((1 <= v) & (v <= 9999)) {
-            return Field::Bad;
+        if !grows(value) {
+            return None;
         }
-        v = v * 10 + digit_value(c);
-        p += 1;
+        value = value * 10 + digit_value(c);
     }
-    Field::Is { value: v, next: p }
+    Some(Field {
+        value,
+        next: text.len(),
+    })
 }
 
 // Writes v from a place on, and gives the place after it.
@@ -63,10 +65,10 @@ pub fn put_value(out: &mut [u8], at: usize, v: u64) -> usize
     ensures { Put out.old out.new at result (digits v) }
 {
     if v < 10 {
-        out[at] = (48 + v) as u8;
+        out[at] = b'0' + v as u8;
         return at + 1;
     }
     let p = put_value(out, at, v / 10);
-    out[p] = (48 + v % 10) as u8;
+    out[p] = b'0' + (v % 10) as u8;
     p + 1
 }

@@ -1,7 +1,7 @@
 -- Laws of Search.antt of specs/.
 -- The answer of the search for the first overbooked interval, and what its two loops know of the intervals passed.
 -- Assumes nothing.
-use Rattle.std.specs.Prelude.{◌≡◌, List, [], ℕ, ◌+◌, ◌≤◌, ◌<◌, T}
+use Rattle.std.specs.Prelude.{◌≡◌, List, [], ℕ, ◌+◌, ◌≤◌, ◌<◌, T, Option, Some, None}
 use Rattle.std.proofs.Math.Option.{none, some}
 use Rattle.std.proofs.Common.{⊎_elim, arith}
 use Rattle.fold.specs.Fold.{below_suc}
@@ -11,14 +11,13 @@ use Rattle.model.specs.Overbooked.{first_overbooked, overbooked_from, overbooked
 use Rattle.model.proofs.Overbooked.{overbooked-range, first_is}
 use Rattle.feasibility.proofs.RowOrNone.{spacious_none}
 use Rattle.feasibility.specs.declared.Overbooked.{Overbooked}
-use Rattle.feasibility.specs.declared.Overbooked.TheVariants.{Interval, Nowhere}
 use Rattle.feasibility.specs.Search.{Finds, windows_only, NoneBefore, NoneFrom}
 
 -- nothing else of a day counts: an answer for its windows is one for the day
-pub finds_day : (y : Yard) (r : Overbooked) → Finds (windows_only y.trains y.tracks y.slots y.first y.last) r → Finds y r
+pub finds_day : (y : Yard) (r : Option Overbooked) → Finds (windows_only y.trains y.tracks y.slots y.first y.last) r → Finds y r
 unfolding first_overbooked overbooked_first overbooked_last overbooked_from overbooked exceeds
-finds_day y Nowhere h = h
-finds_day y (Interval a b k) h = h
+finds_day y None h = h
+finds_day y (Some o) h = h
 
 module _ (y : Yard) where
   pub none_before_start : (NoneBefore y) 1

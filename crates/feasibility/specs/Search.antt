@@ -1,6 +1,6 @@
 -- The answer of the search for the first overbooked interval, and what its two loops know of the intervals passed.
 -- Assumes nothing.
-use Rattle.std.specs.Prelude.{◌≡◌, List, [], ℕ, ◌+◌, ◌≤◌, ◌<◌, T}
+use Rattle.std.specs.Prelude.{◌≡◌, List, [], ℕ, ◌+◌, ◌≤◌, ◌<◌, T, Option, Some, None}
 use Rattle.std.proofs.Math.Option.{none, some}
 use Rattle.std.proofs.Common.{⊎_elim, arith}
 use Rattle.fold.specs.Fold.{below_suc}
@@ -9,14 +9,13 @@ use Rattle.model.specs.Model.{Yard, bound_inside, exceeds, overbooked}
 use Rattle.model.specs.Overbooked.{first_overbooked, overbooked_from, overbooked_first, overbooked_last}
 use Rattle.model.proofs.Overbooked.{overbooked-range, first_is}
 use Rattle.feasibility.specs.declared.Overbooked.{Overbooked}
-use Rattle.feasibility.specs.declared.Overbooked.TheVariants.{Interval, Nowhere}
 
 -- ---- the answer
 
 -- the answer names the model's first overbooked interval of the day, with the number of trains bound inside, or there is none
-abbrev pub Finds : Yard → Overbooked → Type 0
-Finds y Nowhere = first_overbooked y ≡ none
-Finds y (Interval a b k) = (first_overbooked y ≡ some (record { first = a; last = b })) × (k ≡ bound_inside y a b)
+abbrev pub Finds : Yard → Option Overbooked → Type 0
+Finds y None = first_overbooked y ≡ none
+Finds y (Some o) = (first_overbooked y ≡ some (record { first = o.first; last = o.last })) × (o.trains ≡ bound_inside y o.first o.last)
 
 -- the day of which the search is given all that it needs: n trains with their windows, tracks and slots
 abbrev pub windows_only : ℕ → ℕ → ℕ → List ℕ → List ℕ → Yard

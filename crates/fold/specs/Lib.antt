@@ -5,3 +5,4 @@ pub mod Counting
 pub mod Listed
 pub mod Table
 pub mod Column
+pub mod First

@@ -1,8 +1,8 @@
--- The state of the loop through the successors of one slot, in words (`Gathering`): the array, the count and the flag are what came of the
+-- The state of the loop through the successors of one slot, (`Gathering`): the array, the count and the flag are what came of the
 -- successors that are done. Its turns: the plan is offered, or there is no room and it comes before none, or it may not be served; and the end
 -- of the slot.
 -- Assumes nothing.
-use Rattle.std.specs.Prelude.{◌≡◌, refl, Bool, true, false, ◌⊎◌, ℕ, suc, ◌+◌, ◌-◌, ◌*◌, ◌≤◌, ◌<◌, T, ltb, length}
+use Rattle.std.specs.Prelude.{◌≡◌, refl, Bool, true, false, ◌⊎◌, ℕ, suc, ◌-◌, ◌≤◌, ◌<◌, T, ltb, length}
 use Rattle.std.proofs.Math.Path.{sym}
 use Rattle.std.proofs.Common.{ap, ◌∙◌, subst, subst₂}
 use Rattle.std.proofs.Math.Logic.{⊎_elim}
@@ -24,15 +24,22 @@ use Rattle.beam.specs.HeldWords.{held_word, Holds, held_before}
 use Rattle.beam.proofs.HeldWords.{held_before_lem}
 use Rattle.beam.specs.Gathering.{from, Gathered, And}
 use Rattle.beam.proofs.Gathering.{at_place, gathered_none, gathered_skip, gathered_add, gathered_reject, gathered_kept}
+use Rattle.held_plans.specs.declared.Held.{Held}
+use Rattle.held_plans.specs.declared.HeldPlan.{HeldPlan}
+use Rattle.held_plans.specs.Words.{word, plan_at, words}
 use Rattle.offering.specs.Offered.{Offered}
 use Rattle.gathering.specs.Kept.{next_path, gathered_ordered, gathered_few, gathered_path}
 use Rattle.gathering.specs.Joining.{offered_is}
 
-pub record Gathering (y : Yard) (width t : ℕ) (done : ℕ → ℕ → Type 0) (a : List ℕ) (count : ℕ) (dropped : Bool) : Type 0 where
+pub record Gathering (y : Yard) (width t : ℕ) (done : ℕ → ℕ → Type 0) (a : List HeldPlan) (count : ℕ) (dropped : Bool) : Type 0 where
   pub plans : List Plan
   pub many : length plans ≡ count
-  pub holds : Holds y a plans
+  pub holds : Holds y (words a) plans
   pub gathered : Gathered y width t done plans dropped
+
+-- what is held is so
+abbrev pub Gathers : Yard → ℕ → ℕ → (ℕ → ℕ → Type 0) → Held → Type 0
+Gathers y width t done h = Gathering y width t done h.plans h.count h.dropped
 
 -- all sets of the plans before place k are done
 abbrev pub Before : ℕ → ℕ → ℕ → Type 0
@@ -43,14 +50,14 @@ abbrev pub Passed : ℕ → ℕ → ℕ → ℕ → Type 0
 Passed k s k' s' = (k' < k) ⊎ ((k' ≡ k) × (s < s'))
 
 -- w has the words of a plan
-abbrev pub Words : Yard → Plan → List ℕ → Type 0
-Words y p w = (c : ℕ) → c < 16 → get_or w c 0 ≡ held_word y p c
+abbrev pub Words : Yard → Plan → HeldPlan → Type 0
+Words y p w = (c : ℕ) → c < 16 → word w c ≡ held_word y p c
 
 module _ (y : Yard) (width t : ℕ) where
-  pub gathering_none : (a : List ℕ) → Gathering y width t (Before 0) a 0 false
+  pub gathering_none : (a : List HeldPlan) → Gathering y width t (Before 0) a 0 false
   gathering_none a = record { plans = []; many = refl; holds = λ k c m n. absurd (omega arith); gathered = gathered_none y width t (Before 0) (λ k s d. omega arith) }
 
-  module _ {done : ℕ → ℕ → Type 0} {a : List ℕ} {count : ℕ} {dropped : Bool} (g : Gathering y width t done a count dropped) where
+  module _ {done : ℕ → ℕ → Type 0} {a : List HeldPlan} {count : ℕ} {dropped : Bool} (g : Gathering y width t done a count dropped) where
     pub gathering_also : (done' : ℕ → ℕ → Type 0) → ((k s : ℕ) → k < length (kept y width t) → done' k s → T (may_serve y (suc t) (rest y (from y width t k)) s) → done k s)
         → Gathering y width t done' a count dropped
     gathering_also done' before = record { plans = g.plans; many = g.many; holds = g.holds; gathered = gathered_skip y width t done done' g.plans dropped before g.gathered }
@@ -79,18 +86,17 @@ module _ (y : Yard) (width t : ℕ) where
       }
 
       -- it costs more than that one
-      pub gathering_dearer : dropped ≡ true → count ≡ width → 1 ≤ width → get_or a ((count - 1) * 16) 0 < cost_so_far y (s ∷ p) → Gathering y width t (And y width t done k s) a count dropped
+      pub gathering_dearer : dropped ≡ true → count ≡ width → 1 ≤ width → (plan_at a (count - 1)).cost < cost_so_far y (s ∷ p) → Gathering y width t (And y width t done k s) a count dropped
       unfolding held_word word_of comes_before
       gathering_dearer full long wide dearer =
-          let last : get_or a ((count - 1) * 16 + 0) 0 ≡ cost_so_far y (get_or g.plans (count - 1) []) = g.holds (count - 1) 0 (omega (arith, g.many)) (omega arith) in
-          let place : (count - 1) * 16 + 0 ≡ (count - 1) * 16 = omega arith in
-          let less : cost_so_far y (get_or g.plans (count - 1) []) < cost_so_far y (s ∷ p) = omega (arith, dearer, sym (ap (λ i. get_or a i 0) place) ∙ last) in
+          let last : (plan_at a (count - 1)).cost ≡ cost_so_far y (get_or g.plans (count - 1) []) = g.holds (count - 1) 0 (omega (arith, g.many)) (omega arith) in
+          let less : cost_so_far y (get_or g.plans (count - 1) []) < cost_so_far y (s ∷ p) = omega (arith, dearer, last) in
           rejected full long wide
           (λ t. ⊎_elim (λ l. omega arith) (λ e. let same = e.0 in omega arith) (key_cases (cost_so_far y) _ (s ∷ p) (get_or g.plans (count - 1) []) t))
 
       -- w has the words of the plan with the set
-      module _ (few : y.slots ≤ 12) (w : List ℕ) (own : Words y (s ∷ from y width t k) w) where
-        pub gathering_offered : {b : List ℕ} {count' : ℕ} {dropped' : Bool} → T (may_serve y (suc t) (rest y p) s)
+      module _ (few : y.slots ≤ 12) (w : HeldPlan) (own : Words y (s ∷ from y width t k) w) where
+        pub gathering_offered : {b : List HeldPlan} {count' : ℕ} {dropped' : Bool} → T (may_serve y (suc t) (rest y p) s)
             → Offered w a count dropped width y.slots b count' dropped' → Gathering y width t (And y width t done k s) b count' dropped'
         gathering_offered {b} {count'} {dropped'} may o =
             let path : Path y (s ∷ p) = next_path y width t p s among may in
@@ -106,12 +112,12 @@ module _ (y : Yard) (width t : ℕ) where
               gathered = subst (Gathered y width t (And y width t done k s) _) j.flag (gathered_add y width t done g.plans dropped k s inside g.gathered may);
             }
 
-        pub gathering_later : dropped ≡ true → count ≡ width → 1 ≤ width → Sub s (rest y p) → held_before y.slots w a (count - 1) ≡ false
+        pub gathering_later : dropped ≡ true → count ≡ width → 1 ≤ width → Sub s (rest y p) → held_before y.slots (word w) (words a) (count - 1) ≡ false
             → Gathering y width t (And y width t done k s) a count dropped
         gathering_later full long wide within later =
             let path = (remained_path y width t p (kept_of y width t p among)).0 in
-            let last : held_before y.slots w a (count - 1) ≡ comes_before y (s ∷ p) (get_or g.plans (count - 1) []) =
-            held_before_lem y a g.plans g.holds w (s ∷ p) own few (of_trains_next y p s path within) trains (count - 1) (omega (arith, g.many)) in
+            let last : held_before y.slots (word w) (words a) (count - 1) ≡ comes_before y (s ∷ p) (get_or g.plans (count - 1) []) =
+            held_before_lem y (words a) g.plans g.holds (word w) (s ∷ p) own few (of_trains_next y p s path within) trains (count - 1) (omega (arith, g.many)) in
             rejected full long wide (of_false (sym last ∙ later))
 
     pub gathering_barred : (k s : ℕ) → (T (may_serve y (suc t) (rest y (from y width t k)) s) → ⊥) → Gathering y width t (And y width t done k s) a count dropped
@@ -121,7 +127,7 @@ module _ (y : Yard) (width t : ℕ) where
 
     -- when all plans are done
     pub gathering_kept : suc t ≤ y.slots → ((k s : ℕ) → k < length (kept y width t) → done k s)
-        → Holds y a (kept y width (suc t)) × (count ≡ length (kept y width (suc t))) × (dropped ≡ ltb width (length (remained y width (suc t))))
+        → Holds y (words a) (kept y width (suc t)) × (count ≡ length (kept y width (suc t))) × (dropped ≡ ltb width (length (remained y width (suc t))))
     gathering_kept h every =
         let (is, flag) = gathered_kept y width t done g.plans dropped h (λ k s m may. every k s m) g.gathered in
-        (subst (Holds y a) is g.holds, sym g.many ∙ ap length is, flag)
+        (subst (Holds y (words a)) is g.holds, sym g.many ∙ ap length is, flag)

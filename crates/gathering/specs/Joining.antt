@@ -1,4 +1,4 @@
--- A plan that is offered to those in the array (offering, Offered.antt) joins them as merging says: the words are those of the first plans of
+-- A plan that is offered to those in the array (offering, Offered.antt) joins them as merging says: those held are then of the first plans of
 -- the merged list, and the flag says that it is longer (`offered_is`).
 -- Assumes nothing.
 use Rattle.std.specs.Prelude.{◌≡◌, Bool, true, false, ◌||◌, ltb, get_or}
@@ -18,6 +18,8 @@ use Rattle.beam.proofs.Successors.{plans_order}
 use Rattle.beam.specs.Words.{OfTrains}
 use Rattle.beam.specs.HeldWords.{held_word, Holds, held_before, Shifted}
 use Rattle.beam.proofs.HeldWords.{joined_holds, place_of_rest, place_of_plan}
+use Rattle.held_plans.specs.declared.HeldPlan.{HeldPlan}
+use Rattle.held_plans.specs.Words.{word, words}
 use Rattle.offering.specs.Put.{Put}
 use Rattle.held_plans.specs.Placed.{rest_place, plan_place}
 use Rattle.offering.specs.Offered.{Offered, stays, replaces, joins, pushes, drops}
@@ -31,15 +33,15 @@ or_true true c e = refl
 or_true false c e = e
 
 -- the words, the count and the flag are those of l with x
-pub record Joins (y : Yard) (width : ℕ) (x : Plan) (l : List Plan) (dropped : Bool) (b : List ℕ) (count : ℕ) (dropped' : Bool) : Type 0 where
-  pub holds : Holds y b (take width (add (rest y) (comes_before y) x l))
+pub record Joins (y : Yard) (width : ℕ) (x : Plan) (l : List Plan) (dropped : Bool) (b : List HeldPlan) (count : ℕ) (dropped' : Bool) : Type 0 where
+  pub holds : Holds y (words b) (take width (add (rest y) (comes_before y) x l))
   pub many : length (take width (add (rest y) (comes_before y) x l)) ≡ count
   pub flag : (dropped || ltb width (length (add (rest y) (comes_before y) x l))) ≡ dropped'
 
 -- those of the plans l stand in a, x has the words w
 module _ (y : Yard) (few : y.slots ≤ 12) (width : ℕ) (l : List Plan) (ordered : InOrder (rest y) (comes_before y) l) (room : length l ≤ width)
-    (trains : (k : ℕ) → k < length l → OfTrains y (get_or l k [])) (a : List ℕ) (h : Holds y a l)
-    (x : Plan) (w : List ℕ) (own : (c : ℕ) → c < 16 → get_or w c 0 ≡ held_word y x c) (of-trains : OfTrains y x) where
+    (trains : (k : ℕ) → k < length l → OfTrains y (get_or l k [])) (a : List HeldPlan) (h : Holds y (words a) l)
+    (x : Plan) (w : HeldPlan) (own : (c : ℕ) → c < 16 → word w c ≡ held_word y x c) (of-trains : OfTrains y x) where
   more : List Plan
   more = add (rest y) (comes_before y) x l
 
@@ -49,16 +51,21 @@ module _ (y : Yard) (few : y.slots ≤ 12) (width : ℕ) (l : List Plan) (ordere
   place : ℕ
   place = place_of (rest y) (comes_before y) [] x l
 
-  same_is : rest_place a (length l) (get_or w 15 0) ≡ same
+  same_is : rest_place a (length l) w.rest ≡ same
   unfolding held_word same
-  same_is = place_of_rest y a l h (get_or w 15 0) ∙ ap (λ r. place_of_key (rest y) (comes_before y) [] r l) (own 15 (omega arith))
+  same_is = place_of_rest y (words a) l h w.rest ∙ ap (λ r. place_of_key (rest y) (comes_before y) [] r l) (own 15 (omega arith))
 
   place_is : plan_place y.slots a (length l) w ≡ place
   unfolding place
-  place_is = place_of_plan y a l h w x own few of-trains trains
+  place_is = place_of_plan y (words a) l h (word w) x own few of-trains trains
 
-  shifted : {b : List ℕ} {p u : ℕ} → Put w a b p u → Shifted y x a b p u
-  shifted p = record { low = p.low; here = λ c m. p.here c m ∙ own c m; moved = p.moved; high = p.high }
+  shifted : {b : List HeldPlan} {p u : ℕ} → Put w a b p u → Shifted y x (words a) (words b) p u
+  shifted p = record {
+    low = λ k c m. ap (λ q. word q c) (p.low k m);
+    here = λ c m. ap (λ q. word q c) p.here ∙ own c m;
+    moved = λ k c m n. ap (λ q. word q c) (p.moved k m n);
+    high = λ k c m. ap (λ q. word q c) (p.high k m);
+  }
 
   -- x joins at its place
   at_place : place ≤ same → Joined [] x l more place same
@@ -66,57 +73,57 @@ module _ (y : Yard) (few : y.slots ≤ 12) (width : ℕ) (l : List Plan) (ordere
   at_place m = joins_at (rest y) (comes_before y) [] (plans_order y) x l ordered m
 
   -- the first m plans, where no more are kept
-  all_kept : (m count : ℕ) (b : List ℕ) (dropped : Bool) → Holds y b (take m more) → length more ≡ m → m ≤ width → m ≡ count → Joins y width x l dropped b count dropped
+  all_kept : (m count : ℕ) (b : List HeldPlan) (dropped : Bool) → Holds y (words b) (take m more) → length more ≡ m → m ≤ width → m ≡ count → Joins y width x l dropped b count dropped
   unfolding more
   all_kept m count b dropped holds long fits is =
       let whole : take width more ≡ more = take_all width more (omega arith) in
       record {
-        holds = subst (Holds y b) (take_all m more (omega arith) ∙ sym whole) holds;
+        holds = subst (Holds y (words b)) (take_all m more (omega arith) ∙ sym whole) holds;
         many = ap length whole ∙ long ∙ is;
         flag = or_false dropped (ltb width (length more)) (le-ltb width (length more) (omega arith));
       }
 
   -- one more than the width: the last is dropped
-  one_dropped : (count : ℕ) (b : List ℕ) (dropped : Bool) → Holds y b (take (length l) more) → length more ≡ suc (length l) → length l ≡ width → length l ≡ count
+  one_dropped : (count : ℕ) (b : List HeldPlan) (dropped : Bool) → Holds y (words b) (take (length l) more) → length more ≡ suc (length l) → length l ≡ width → length l ≡ count
       → Joins y width x l dropped b count true
   unfolding more
   one_dropped count b dropped holds long full is = record {
-    holds = subst (λ m. Holds y b (take m more)) full holds;
+    holds = subst (λ m. Holds y (words b) (take m more)) full holds;
     many = length-take-le width more (omega arith) ∙ sym full ∙ is;
     flag = or_true dropped (ltb width (length more)) (lt-ltb width (length more) (omega arith));
   }
 
-  pub offered_is : (dropped : Bool) (b : List ℕ) (count : ℕ) (dropped' : Bool) → Offered w a (length l) dropped width y.slots b count dropped'
+  pub offered_is : (dropped : Bool) (b : List HeldPlan) (count : ℕ) (dropped' : Bool) → Offered w a (length l) dropped width y.slots b count dropped'
       → Joins y width x l dropped b count dropped'
   unfolding more same place
   offered_is dropped b count dropped' (stays m) =
       let is : more ≡ l = joins_not (rest y) (comes_before y) [] (plans_order y) x l (omega (arith, same_is, place_is)) in
-      all_kept (length l) (length l) a dropped (subst (λ r. Holds y a (take (length l) r)) (sym is) (subst (Holds y a) (sym (take_all (length l) l (le_refl (length l)))) h))
+      all_kept (length l) (length l) a dropped (subst (λ r. Holds y (words a) (take (length l) r)) (sym is) (subst (Holds y (words a)) (sym (take_all (length l) l (le_refl (length l)))) h))
       (ap length is) room refl
   offered_is dropped b count dropped' (replaces before inside put) =
       let j = at_place (omega (arith, same_is, place_is)) in
       let long : length more ≡ length l = j.as_long (omega (arith, same_is)) in
-      let s : Shifted y x a b place same = subst (λ u. Shifted y x a b place u) same_is (subst (λ p. Shifted y x a b p (rest_place a (length l) (get_or w 15 0))) place_is (shifted put)) in
+      let s : Shifted y x (words a) (words b) place same = subst (λ u. Shifted y x (words a) (words b) place u) same_is (subst (λ p. Shifted y x (words a) (words b) p (rest_place a (length l) w.rest)) place_is (shifted put)) in
       all_kept (length l) (length l) b dropped
-      (joined_holds y x l more a b place same same (length l) j (omega (arith, same_is, place_is)) (omega (arith, same_is)) (omega (arith, same_is, place_is)) (le_refl same) (omega arith) (λ k m n. n) s h)
+      (joined_holds y x l more (words a) (words b) place same same (length l) j (omega (arith, same_is, place_is)) (omega (arith, same_is)) (omega (arith, same_is, place_is)) (le_refl same) (omega arith) (λ k m n. n) s h)
       long room refl
   offered_is dropped b count dropped' (joins new free put) =
       let end : same ≡ length l = sym same_is ∙ new in
-      let inside : place ≤ length l = omega (arith, place_is, lowest_le (length l) (held_before y.slots w a)) in
+      let inside : place ≤ length l = omega (arith, place_is, lowest_le (length l) (held_before y.slots (word w) (words a))) in
       let j = at_place (omega arith) in
       let long : length more ≡ suc (length l) = j.longer (omega arith) in
-      let s : Shifted y x a b place same = subst (λ u. Shifted y x a b place u) (sym end) (subst (λ p. Shifted y x a b p (length l)) place_is (shifted put)) in
+      let s : Shifted y x (words a) (words b) place same = subst (λ u. Shifted y x (words a) (words b) place u) (sym end) (subst (λ p. Shifted y x (words a) (words b) p (length l)) place_is (shifted put)) in
       all_kept (suc (length l)) (length l + 1) b dropped
-      (joined_holds y x l more a b place same same (suc (length l)) j inside (omega arith) (omega arith) (le_refl same) (omega arith) (λ k m n. n) s h)
+      (joined_holds y x l more (words a) (words b) place same same (suc (length l)) j inside (omega arith) (omega arith) (le_refl same) (omega arith) (λ k m n. n) s h)
       long free (omega arith)
   offered_is dropped b count dropped' (pushes new full before put) =
       let end : same ≡ length l = sym same_is ∙ new in
       let inside : place < length l = omega (arith, place_is) in
       let j = at_place (omega arith) in
       let long : length more ≡ suc (length l) = j.longer (omega arith) in
-      let s : Shifted y x a b place (length l - 1) = subst (λ p. Shifted y x a b p (length l - 1)) place_is (shifted put) in
+      let s : Shifted y x (words a) (words b) place (length l - 1) = subst (λ p. Shifted y x (words a) (words b) p (length l - 1)) place_is (shifted put) in
       one_dropped (length l) b dropped
-      (joined_holds y x l more a b place same (length l - 1) (length l) j (omega arith) (omega arith) (omega arith) (omega arith) (omega arith) (λ k m n. absurd (omega arith)) s h)
+      (joined_holds y x l more (words a) (words b) place same (length l - 1) (length l) j (omega arith) (omega arith) (omega arith) (omega arith) (omega arith) (λ k m n. absurd (omega arith)) s h)
       long (omega arith) refl
   offered_is dropped b count dropped' (drops new full last) =
       let end : same ≡ length l = sym same_is ∙ new in

@@ -13,6 +13,7 @@ use Rattle.staging.specs.Tables.{open_in}
 use Rattle.beam.specs.Beam.{rest, may_serve}
 use Rattle.beam.proofs.Paths.{fits_is, may_serve_lem}
 use Rattle.beam.specs.Gathering.{from, And}
+use Rattle.held_plans.specs.declared.HeldPlan.{HeldPlan}
 use Rattle.set_costs.specs.Sets.{Trimmed}
 use Rattle.gathering.specs.Gathering.{Gathering, Before, Passed, gathering_also}
 
@@ -32,7 +33,7 @@ module _ (y : Yard) (width t : ℕ) where
       let (inside, few) = fits_is y (suc t) s fit in
       (sub_meet s (left k) open-now within inside, few)
 
-  module _ {a : List ℕ} {count : ℕ} {dropped : Bool} (k : ℕ) where
+  module _ {a : List HeldPlan} {count : ℕ} {dropped : Bool} (k : ℕ) where
     pub walk_begins : (s : ℕ) → Trimmed y.tracks (ready k) s → Gathering y width t (Before k) a count dropped → Gathering y width t (Passed k s) a count dropped
     walk_begins s trim g =
         gathering_also y width t g (Passed k s)

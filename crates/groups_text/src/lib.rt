@@ -17,7 +17,7 @@ fn put_member(out: &mut [u8], at: usize, numbers: &[u32], groups: &[u8], g: u8, 
     if groups[i] != g {
         return at;
     }
-    output::put_two(out, at, day::wide8(g), day::wide32(numbers[i]))
+    output::put_row(out, at, &[u64::from(g), u64::from(numbers[i])])
 }
 
 // Puts the rows of group g from a place on, of n trains. Gives the place after them.

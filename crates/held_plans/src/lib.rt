@@ -1,61 +1,82 @@
-// The partial plans that the beam search holds, in one array, sixteen words each (beam, HeldWords.antt): moved up by one place, compared by their
-// words, and their places found (document 02, order 9).
+// The partial plans that the beam search holds after a slot: how two compare, and the places that a search through them looks for (document 02,
+// order 9).
 //
-// Proved: `move_up` moves just those words; the order is that of the words; each place is the lowest that passes. Assumes nothing.
+// Proved: the order is that of the words that beam gives a plan (HeldWords.antt); each place is the lowest that passes. Assumes nothing.
 #![tactic(auto)]
 
-ghost use Rattle.std.specs.Prelude.{◌≡◌, ◌+◌, ◌*◌, ◌≤◌, ◌<◌, length, get_or};
+ghost use Rattle.std.specs.Prelude.{◌≡◌, ◌==◌, ◌+◌, ◌≤◌, position};
 ghost use Rattle.model.specs.Model.{lower};
-ghost use Rattle.held_plans.specs.Moved.{MovedUp};
+ghost use Rattle.held_plans.specs.Words.{word};
 ghost use Rattle.held_plans.specs.Placed.{rest_place, plan_place};
 
-// Moves the words of the places from `place` up to `upto` sixteen further.
-pub fn move_up(held: &mut [u64], place: usize, upto: usize)
-    requires { (place ≤ upto) × (upto < 64) × (length held.old ≡ 1024) }
-    ensures { MovedUp (place * 16 + 16) (upto * 16 + 16) held.old held.new }
-{
-    let mut i = upto * 16 + 16;
-    while place * 16 + 16 < i {
-        i -= 1;
-        held[i] = held[i - 16];
-    }
+// A partial plan: its cost, its revisits and the sum of its trains' slots so far; for each slot the trains that are not served in it, and the
+// trains that remain.
+#[derive(Clone, Copy)]
+pub struct HeldPlan {
+    pub cost: u64,
+    pub revisits: u64,
+    pub slot_sum: u64,
+    pub unserved: [u64; 12],
+    pub rest: u64,
 }
 
-// Whether the plan of the words x comes before the one whose words stand from `at` on.
-pub fn comes_before(x: &[u64], held: &[u64], at: usize, words: usize) -> bool
-    requires { (words ≤ 16) × (words ≤ length x.now) × (at ≤ 1024) × (at + words ≤ length held.now) }
-    ensures { result ≡ lower words (λ c. get_or x.now c 0) (λ c. get_or held.now (at + c) 0) }
+// The plans that are held, the first `count` of the array, and whether one was dropped for want of room.
+#[derive(Clone, Copy)]
+pub struct Held {
+    pub plans: [HeldPlan; 64],
+    pub count: usize,
+    pub dropped: bool,
+}
+
+// Whether the plan x comes before the other, on a day of so many slots.
+pub fn comes_before(x: &HeldPlan, other: &HeldPlan, slots: usize) -> bool
+    requires { slots ≤ 12 }
+    ensures { result ≡ lower (slots + 3) (word x.now) (word other.now) }
 {
-    for c in 0..words {
-        if x[c] != held[at + c] {
-            return x[c] < held[at + c];
+    if x.cost != other.cost {
+        return x.cost < other.cost;
+    }
+    if x.revisits != other.revisits {
+        return x.revisits < other.revisits;
+    }
+    if x.slot_sum != other.slot_sum {
+        return x.slot_sum < other.slot_sum;
+    }
+    for j in 0..slots {
+        if x.unserved[j] != other.unserved[j] {
+            return x.unserved[j] < other.unserved[j];
         }
     }
     false
 }
 
-// The place of the plan that leaves `rest`, or `count`.
-pub fn place_of_rest(held: &[u64], count: usize, rest: u64) -> usize
-    requires { (count ≤ 64) × (count * 16 ≤ length held.now) }
-    ensures { result ≡ rest_place held.now count rest }
+// The place of the first plan that leaves `rest`.
+fn find_rest(plans: &[HeldPlan], rest: u64) -> Option<usize>
+    ensures { result ≡ position (λ p. p.rest == rest) plans.now }
 {
-    for k in 0..count {
-        if held[k * 16 + 15] == rest {
-            return k;
-        }
-    }
-    count
+    plans.iter().position(|plan| plan.rest == rest)
 }
 
-// The first place of a plan that the one of the words x comes before, or `count`.
-pub fn place_of_plan(held: &[u64], count: usize, x: &[u64], slots: usize) -> usize
-    requires { (count ≤ 64) × (count * 16 ≤ length held.now) × (slots ≤ 12) × (slots + 3 ≤ length x.now) }
-    ensures { result ≡ plan_place slots held.now count x.now }
+// The place of the first plan that x comes before.
+fn find_later(plans: &[HeldPlan], x: &HeldPlan, slots: usize) -> Option<usize>
+    requires { slots ≤ 12 }
+    ensures { result ≡ position (λ p. lower (slots + 3) (word x.now) (word p)) plans.now }
 {
-    for k in 0..count {
-        if comes_before(x, held, k * 16, slots + 3) {
-            return k;
-        }
-    }
-    count
+    plans.iter().position(|plan| comes_before(x, plan, slots))
+}
+
+// The place of the plan that leaves `rest`, or the number of plans.
+pub fn place_of_rest(held: &Held, rest: u64) -> usize
+    requires { held.now.count ≤ 64 }
+    ensures { result ≡ rest_place held.now.plans held.now.count rest }
+{
+    find_rest(&held.plans[..held.count], rest).unwrap_or(held.count)
+}
+
+// The first place of a plan that x comes before, or the number of plans.
+pub fn place_of_plan(held: &Held, x: &HeldPlan, slots: usize) -> usize
+    requires { (held.now.count ≤ 64) × (slots ≤ 12) }
+    ensures { result ≡ plan_place slots held.now.plans held.now.count x.now }
+{
+    find_later(&held.plans[..held.count], x, slots).unwrap_or(held.count)
 }

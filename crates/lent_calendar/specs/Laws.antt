@@ -5,14 +5,14 @@
 --   short-hours                 10 where fewer than fourteen hours are lent, whatever else is;
 --   slots_lent, window-lent     else what the calls answer.
 -- Assumes nothing.
-use Rattle.std.specs.Prelude.{◌≡◌, List, [], ◌∷◌, ℕ, ◌+◌, ◌*◌, ◌/◌, ◌%◌, ◌≤◌, ◌<◌, ltb, length, get_or}
+use Rattle.std.specs.Prelude.{◌≡◌, List, [], ◌∷◌, ℕ, ◌+◌, ◌*◌, ◌/◌, ◌%◌, ◌≤◌, ◌<◌, ltb, length, get_or, Result}
 use Rattle.std.proofs.Common.{sym, ap, ◌∙◌, arith}
 use Rattle.std.proofs.Math.Bool.{cond}
 use borrow.Author.Tests.{le-leb, lt-leb, lt-ltb}
 use Rattle.fold.specs.Listed.{listed_at, listed_ext}
 use Rattle.fold.specs.Column.{filled, filled_at, filled_end}
 use Rattle.day.specs.Answer.{refuses, code, judged}
-use Rattle.day.specs.declared.Verdict.{Verdict}
+use Rattle.day.specs.declared.Refusal.{Refusal}
 use Rattle.refusals.specs.Numbers.{verdict_number, judged-number}
 use Rattle.dates.specs.declared.Date.{Date}
 use Rattle.dates.specs.Dates.{date}
@@ -86,7 +86,7 @@ module _ (week : List ℕ) (minutes : ℕ) (closed : List ℕ) (on : ℕ) where
 -- ---- what is told, from what the code has found: the calendar and the date of the lent numbers, and the call's answer
 
 module _ (week : List ℕ) (minutes : ℕ) (closed : List ℕ) (on : ℕ) {c : Calendar} {d : Date} (is : c ≡ calendar_of week minutes closed) (at : d ≡ date_of on)
-    (v : Verdict) {said : ℕ} (number : said ≡ verdict_number v) (room : 14 ≤ length week) where
+    (v : Result Unit Refusal) {said : ℕ} (number : said ≡ verdict_number v) (room : 14 ≤ length week) where
   pub tells_slots : {k : ℕ} → judged v k ≡ slots_on c d → k ≡ slots_or_zero (slots_on c d)
       → (said ≡ code (slots_lent week minutes closed on)) × (k ≡ slots_or_zero (slots_lent week minutes closed on))
   tells_slots {k} answer beside =

@@ -5,19 +5,18 @@
 // header's words for it. Assumes nothing.
 #![tactic(auto)]
 
-ghost use Rattle.std.specs.Prelude.{◌≡◌, ◌+◌, ◌*◌, ◌≤◌, ◌<◌, length};
+ghost use Rattle.std.specs.Prelude.{◌≡◌, ◌+◌, ◌*◌, ◌≤◌, ◌<◌, cond, ltb, length, get_or};
+ghost use Rattle.dates.specs.Dates.{date};
 ghost use Rattle.day.specs.Answer.{code};
 ghost use Rattle.opening_hours.specs.Calendar.{slots_or_zero, window_or_zero};
 ghost use Rattle.lent_calendar.specs.LentCalendar.{date_of, hours_of, week_of, closed_of, calendar_of, slots_lent, window_lent};
 
 use dates::Date;
 use opening_hours::{Calendar, Hours};
+use std::array;
 
 // The minutes of a week: opening and closing of seven weekdays.
 const HOURS: usize = 14;
-
-// The places of closed dates.
-const CLOSED: usize = 32;
 
 // A date from one number, year x 10,000 + month x 100 + day.
 fn date_of(number: u32) -> Date
@@ -45,32 +44,25 @@ fn week_of(hours: &[u32]) -> [Hours; 7]
     requires { 14 ≤ length hours.now }
     ensures { result ≡ week_of hours.now }
 {
-    [
-        hours_of(hours, 0),
-        hours_of(hours, 1),
-        hours_of(hours, 2),
-        hours_of(hours, 3),
-        hours_of(hours, 4),
-        hours_of(hours, 5),
-        hours_of(hours, 6),
-    ]
+    array::from_fn(|w| hours_of(hours, w))
+}
+
+// Closed date i, a date of zeros where there are no more.
+fn closed_at(closed: &[u32], i: usize) -> Date
+    ensures { result ≡ cond (ltb i (length closed.now)) (date_of (get_or closed.now i 0)) (date 0 0 0) }
+{
+    if i < closed.len() {
+        date_of(closed[i])
+    } else {
+        date_of(0)
+    }
 }
 
 // The closed dates; those past the 32nd have no place.
 fn closed_of(closed: &[u32]) -> [Date; 32]
     ensures { result ≡ closed_of closed.now }
 {
-    let mut dates = [Date {
-        year: 0,
-        month: 0,
-        day: 0,
-    }; 32];
-    let mut i = 0;
-    while i < closed.len() && i < CLOSED {
-        dates[i] = date_of(closed[i]);
-        i += 1;
-    }
-    dates
+    array::from_fn(|i| closed_at(closed, i))
 }
 
 // The calendar of lent numbers. Its count is that of all dates lent, so that a 33rd is refused.
@@ -78,17 +70,16 @@ fn calendar_of(hours: &[u32], minutes: u32, closed: &[u32]) -> Calendar
     requires { 14 ≤ length hours.now }
     ensures { result ≡ calendar_of hours.now minutes closed.now }
 {
-    let week = week_of(hours);
-    let dates = closed_of(closed);
     Calendar {
-        hours: week,
+        hours: week_of(hours),
         length: minutes,
-        closed: dates,
+        closed: closed_of(closed),
         count: closed.len(),
     }
 }
 
 // How many slots a date uses: 0 with the number, or 10 or 23 with 0.
+// Stays: it gives the number of a refusal, since it is the body of the C function `yard_slots_on`.
 pub fn tell_slots(hours: &[u32], minutes: u32, closed: &[u32], date: u32, slots: &mut u32) -> u64
     ensures value { result ≡ code (slots_lent hours.now minutes closed.now date) }
     ensures slots_after { slots.new ≡ slots_or_zero (slots_lent hours.now minutes closed.now date) }
@@ -99,11 +90,11 @@ pub fn tell_slots(hours: &[u32], minutes: u32, closed: &[u32], date: u32, slots:
     }
     let found = opening_hours::slots_on(calendar_of(hours, minutes, closed), date_of(date));
     *slots = found.slots;
-    let verdict = found.verdict;
-    refusals::number_of(verdict)
+    refusals::number_of(found.verdict)
 }
 
 // The window of a train: 0 with its first and last slot, or 10, 23 or 24 with zeros.
+// Stays: it gives the number of a refusal, since it is the body of the C function `yard_window`.
 pub fn tell_window(
     hours: &[u32],
     minutes: u32,
@@ -129,9 +120,7 @@ pub fn tell_window(
         arrival,
         departure,
     );
-    let window = found.window;
-    *first = window.first;
-    *last = window.last;
-    let verdict = found.verdict;
-    refusals::number_of(verdict)
+    *first = found.window.first;
+    *last = found.window.last;
+    refusals::number_of(found.verdict)
 }

@@ -1,14 +1,15 @@
 -- The line reader: told what is due, it finds a names line, a row of values or the end of the text, or refuses the line's form (1
 -- where a names line is due, 2 where a row is). And the code's answer for it.
 -- Assumes nothing.
-use Rattle.std.specs.Prelude.{◌≡◌, List, [], ◌∷◌, ℕ, ◌≤◌, length, get_or, drop}
+use Rattle.std.specs.Prelude.{◌≡◌, List, [], ◌∷◌, ℕ, ◌≤◌, length, get_or, drop, Option, Some, None, Result, Ok, Err}
 use Rattle.day.specs.Answer.{number, carried}
-use Rattle.decimal.specs.Parsed.{Parsed, fail, got}
+use Rattle.decimal.specs.Parsed.{Parsed, fail, got, ReadTo}
+use Rattle.day.specs.declared.Refusal.{Refusal}
 use Rattle.lines.specs.Lines.{names, row}
 use Rattle.lines.specs.declared.Due.{Due}
 use Rattle.lines.specs.declared.Due.TheVariants.{NamesLine, RowOfThree, RowOfFive, RowOrEnd, RowNamesOrEnd, PairOrEnd}
 use Rattle.lines.specs.declared.Line.{Line}
-use Rattle.lines.specs.declared.Line.TheVariants.{Names, Row, End, Refused}
+use Rattle.lines.specs.declared.Line.TheVariants.{Names, Row, End}
 
 -- what stands at the front of a text, with the text after it; or the number of a refusal and what it carries
 pub data Found : Type 0 where
@@ -56,8 +57,22 @@ pub record RowAt (t : List ℕ) (f : Found) (a b c d e next : ℕ) : Type 0 wher
   pub fourth : d ≡ get_or values 3 0
   pub fifth : e ≡ get_or values 4 0
 
-abbrev pub Answers : List ℕ → Found → Line → Type 0
-Answers t f (Names next) = (f ≡ a_names_line (drop next t)) × (next ≤ length t)
-Answers t f (Row a b c d e next) = RowAt t f a b c d e next
-Answers t f End = f ≡ the_end
-Answers t f (Refused r) = f ≡ a_refusal (number r) (carried r)
+-- a line that was found
+abbrev pub Finds : List ℕ → Found → Line → Type 0
+Finds t f (Names next) = (f ≡ a_names_line (drop next t)) × (next ≤ length t)
+Finds t f (Row a b c d e next) = RowAt t f a b c d e next
+Finds t f End = f ≡ the_end
+
+abbrev pub Answers : List ℕ → Found → Result Line Refusal → Type 0
+Answers t f (Ok line) = Finds t f line
+Answers t f (Err r) = f ≡ a_refusal (number r) (carried r)
+
+-- the code's answer for a names line: the place after it, or that none is there
+abbrev pub NamesTo : List ℕ → Parsed (Unit {0}) → Option ℕ → Type 0
+NamesTo t p (Some next) = ReadTo t p tt next
+NamesTo t p None = p ≡ fail
+
+-- for a row: the line, whatever its number is, or that no row is there
+abbrev pub RowTo : List ℕ → Parsed (List ℕ) → Option Line → Type 0
+RowTo t p (Some found) = (line : ℕ) → Finds t (row_found line p) found
+RowTo t p None = p ≡ fail

@@ -3,17 +3,17 @@
 // Proved: `read_line` answers what `found` of specs/Reader.antt finds at the place. Assumes nothing.
 #![tactic(auto)]
 
-ghost use Rattle.std.specs.Prelude.{◌≡◌, ◌≤◌, length, drop};
+ghost use Rattle.std.specs.Prelude.{◌≡◌, ◌-◌, ◌≤◌, length, drop};
 ghost use Rattle.decimal.specs.Place.{Answers as Read};
 ghost use Rattle.lines.specs.Lines.{names, field, row};
-ghost use Rattle.lines.specs.Reader.{names_found, row_found, names_or, found, Answers};
+ghost use Rattle.lines.specs.Reader.{found, NamesTo, RowTo, Answers};
 
 use day::Refusal;
 use decimal::Field;
 
 // What the caller is due to find: a names line, a row of three or of five values, or where rows may end, a row of three or the end, the
 // same or a names line, a row of two or the end.
-#[derive(Clone, Copy)]
+#[derive(Clone, Copy, Debug, PartialEq, Eq)]
 pub enum Due {
     NamesLine,
     RowOfThree,
@@ -23,8 +23,8 @@ pub enum Due {
     PairOrEnd,
 }
 
-// What was found: the kind of the line, its fields and the place after it, or the refusal with its line.
-#[derive(Clone, Copy)]
+// What was found: the kind of the line, its fields and the place after it. A row has two, three or five fields; the others are 0.
+#[derive(Clone, Copy, Debug, PartialEq, Eq)]
 pub enum Line {
     Names {
         next: usize,
@@ -38,168 +38,78 @@ pub enum Line {
         next: usize,
     },
     End,
-    Refused(Refusal),
 }
 
-// The place itself, or the end of the text where it lies past that: the same text follows.
-fn place_in(text: &[u8], at: usize) -> usize
-    ensures { (drop result text.now ≡ drop at text.now) × (result ≤ length text.now) }
+// The place after the names line `word`, where that stands at a place.
+fn read_names(text: &[u8], at: usize, word: &[u8]) -> Option<usize>
+    ensures { NamesTo text.now (names word.now (drop at text.now)) result }
 {
-    if text.len() < at {
-        return text.len();
-    }
-    at
-}
-
-// Reads a names line.
-fn read_names(text: &[u8], at: usize, line: usize, word: &[u8]) -> Line
-    ensures { Answers text.now (names_found line (names word.now (drop at text.now))) result }
-{
-    let mut next = place_in(text, at);
-    let mut i = 0;
-    while i < word.len() {
-        if text.len() <= next {
-            return Line::Refused(Refusal::NamesLine(line));
-        }
-        if text[next] != word[i] {
-            return Line::Refused(Refusal::NamesLine(line));
-        }
-        next += 1;
-        i += 1;
-    }
-    Line::Names { next }
+    let at = at.min(text.len());
+    text[at..].starts_with(word).then_some(at + word.len())
 }
 
 // Reads a value and the byte that ends it.
-fn read_field(text: &[u8], at: usize, end: u8) -> Field
+fn read_field(text: &[u8], at: usize, end: u8) -> Option<Field>
     ensures { Read text.now (field end (drop at text.now)) result }
 {
-    let Field::Is { value, next } = decimal::read_value(text, at) else {
-        return Field::Bad;
-    };
-    if text.len() <= next {
-        return Field::Bad;
+    let Field { value, next } = decimal::read_value(text, at)?;
+    if *text.get(next)? != end {
+        return None;
     }
-    if text[next] != end {
-        return Field::Bad;
-    }
-    Field::Is {
+    Some(Field {
         value,
         next: next + 1,
-    }
+    })
 }
 
-// Reads a row of two values.
-fn read_two(text: &[u8], at: usize, line: usize) -> Line
-    ensures { Answers text.now (row_found line (row 1 (drop at text.now))) result }
+// Reads a row of N values, each ended by a space, the last by the end of the line.
+fn read_row<const N: usize>(text: &[u8], at: usize) -> Option<Line>
+    requires { (1 ≤ N) × (N ≤ 5) }
+    ensures { RowTo text.now (row (N - 1) (drop at text.now)) result }
 {
-    let Field::Is { value: a, next: p } = read_field(text, at, 32) else {
-        return Line::Refused(Refusal::RowForm(line));
-    };
-    let Field::Is { value: b, next } = read_field(text, p, 10) else {
-        return Line::Refused(Refusal::RowForm(line));
-    };
-    Line::Row {
-        a,
-        b,
-        c: 0,
-        d: 0,
-        e: 0,
-        next,
+    let mut fields: [u32; 5] = [0; 5];
+    let mut next = at;
+    for i in 0..N {
+        let end = if i + 1 == N { b'\n' } else { b' ' };
+        let field = read_field(text, next, end)?;
+        fields[i] = field.value;
+        next = field.next;
     }
-}
-
-// Reads a row of three values.
-fn read_three(text: &[u8], at: usize, line: usize) -> Line
-    ensures { Answers text.now (row_found line (row 2 (drop at text.now))) result }
-{
-    let Field::Is { value: a, next: p } = read_field(text, at, 32) else {
-        return Line::Refused(Refusal::RowForm(line));
-    };
-    let Field::Is { value: b, next: q } = read_field(text, p, 32) else {
-        return Line::Refused(Refusal::RowForm(line));
-    };
-    let Field::Is { value: c, next } = read_field(text, q, 10) else {
-        return Line::Refused(Refusal::RowForm(line));
-    };
-    Line::Row {
-        a,
-        b,
-        c,
-        d: 0,
-        e: 0,
-        next,
-    }
-}
-
-// Reads a row of five values.
-fn read_five(text: &[u8], at: usize, line: usize) -> Line
-    ensures { Answers text.now (row_found line (row 4 (drop at text.now))) result }
-{
-    let Field::Is { value: a, next: p } = read_field(text, at, 32) else {
-        return Line::Refused(Refusal::RowForm(line));
-    };
-    let Field::Is { value: b, next: q } = read_field(text, p, 32) else {
-        return Line::Refused(Refusal::RowForm(line));
-    };
-    let Field::Is { value: c, next: x } = read_field(text, q, 32) else {
-        return Line::Refused(Refusal::RowForm(line));
-    };
-    let Field::Is { value: d, next: y } = read_field(text, x, 32) else {
-        return Line::Refused(Refusal::RowForm(line));
-    };
-    let Field::Is { value: e, next } = read_field(text, y, 10) else {
-        return Line::Refused(Refusal::RowForm(line));
-    };
-    Line::Row {
+    let [a, b, c, d, e] = fields;
+    Some(Line::Row {
         a,
         b,
         c,
         d,
         e,
         next,
-    }
+    })
 }
 
-// Reads a names line, and where there is none a row of three values: a names line that is refused is not the one that ends the rows.
-fn read_names_or_three(text: &[u8], at: usize, line: usize, word: &[u8]) -> Line
-    ensures { Answers text.now (names_or (names word.now (drop at text.now)) (row_found line (row 2 (drop at text.now)))) result }
-{
-    let names = read_names(text, at, line, word);
-    let Line::Names { next: _ } = names else {
-        return read_three(text, at, line);
-    };
-    names
-}
-
-// Reads the line at a place. `word` is the names line that is due or that may end the rows, `line` the number of the line.
-pub fn read_line(text: &[u8], at: usize, line: usize, due: Due, word: &[u8]) -> Line
+// Reads the line at a place. `word` is the names line that is due or that may end the rows, `line` the number of the line. Where a
+// names line may end the rows and none is there, a row is due: it is the row's form that is refused.
+pub fn read_line(
+    text: &[u8],
+    at: usize,
+    line: usize,
+    due: Due,
+    word: &[u8],
+) -> Result<Line, Refusal>
     ensures { Answers text.now (found due word.now line (drop at text.now)) result }
 {
     match due {
-        Due::NamesLine => read_names(text, at, line, word),
-        Due::RowOfThree => read_three(text, at, line),
-        Due::RowOfFive => read_five(text, at, line),
-        Due::RowOrEnd => {
-            if text.len() <= at {
-                Line::End
-            } else {
-                read_three(text, at, line)
-            }
-        }
-        Due::RowNamesOrEnd => {
-            if text.len() <= at {
-                Line::End
-            } else {
-                read_names_or_three(text, at, line, word)
-            }
-        }
-        Due::PairOrEnd => {
-            if text.len() <= at {
-                Line::End
-            } else {
-                read_two(text, at, line)
-            }
-        }
+        Due::NamesLine => match read_names(text, at, word) {
+            Some(next) => Ok(Line::Names { next }),
+            None => Err(Refusal::NamesLine(line)),
+        },
+        Due::RowOfThree => read_row::<3>(text, at).ok_or(Refusal::RowForm(line)),
+        Due::RowOfFive => read_row::<5>(text, at).ok_or(Refusal::RowForm(line)),
+        _ if text.len() <= at => Ok(Line::End),
+        Due::RowOrEnd => read_row::<3>(text, at).ok_or(Refusal::RowForm(line)),
+        Due::RowNamesOrEnd => match read_names(text, at, word) {
+            Some(next) => Ok(Line::Names { next }),
+            None => read_row::<3>(text, at).ok_or(Refusal::RowForm(line)),
+        },
+        Due::PairOrEnd => read_row::<2>(text, at).ok_or(Refusal::RowForm(line)),
     }
 }

@@ -2,14 +2,15 @@
 // whether it is sound: some long day's file reads to it.
 //
 // Proved: the limits are those of specs/LongDay.antt; `is_long_sound` is the definition `sound` of day's Sound.antt at these limits, for
-// every record, sound or not. It is day_sound's function over slices, with a column of zeros for the groups. Assumes nothing.
+// every record, sound or not. It is day_sound's function over a lent day, with a column of zeros for the groups. Assumes nothing.
 #![tactic(auto)]
 
 ghost use Rattle.std.specs.Prelude.{◌≡◌};
+ghost use Rattle.day.specs.Parts.{part_yard, IsShaped};
 ghost use Rattle.day.specs.Sound.{zero_day, sound};
 ghost use Rattle.long_day.specs.LongDay.{long_limits, long_head, long_yard};
 
-use day::{Head, Limits};
+use day::{Head, Limits, Parts};
 
 // A long day. Positions are counted from 0; A(i, j), the boxes that train i receives from train j, stands at i * 36 + j of `boxes`.
 // Unused positions hold 0.
@@ -41,15 +42,36 @@ pub fn long_limits() -> Limits
     }
 }
 
-pub fn long_head(day: LongDay) -> Head
-    ensures { result ≡ long_head day }
-{
-    Head {
-        trains: day.trains,
-        tracks: day.tracks,
-        slots: day.slots,
-        revisit: day.revisit,
-        split: day.split,
+// The column of groups of every long day.
+static NO_GROUPS: [u8; 36] = [0; 36];
+
+impl LongDay {
+    pub fn head(&self) -> Head
+        ensures { result ≡ long_head self.now }
+    {
+        Head {
+            trains: self.trains,
+            tracks: self.tracks,
+            slots: self.slots,
+            revisit: self.revisit,
+            split: self.split,
+        }
+    }
+
+    pub fn parts(&self) -> Parts<'_>
+        ensures day { part_yard result ≡ long_yard self.now }
+        ensures limits { result.limits ≡ long_limits }
+        ensures shape { IsShaped result }
+    {
+        Parts {
+            limits: long_limits(),
+            head: self.head(),
+            numbers: &self.numbers,
+            first: &self.first,
+            last: &self.last,
+            groups: &NO_GROUPS,
+            boxes: &self.boxes,
+        }
     }
 }
 
@@ -74,18 +96,5 @@ pub fn zero_long_day() -> LongDay
 pub fn is_long_sound(day: LongDay) -> bool
     ensures { result ≡ sound long_limits (long_yard day) }
 {
-    let numbers = day.numbers;
-    let first = day.first;
-    let last = day.last;
-    let groups = [0u8; 36];
-    let boxes = day.boxes;
-    day_sound::is_file_sound(
-        long_limits(),
-        long_head(day),
-        &numbers,
-        &first,
-        &last,
-        &groups,
-        &boxes,
-    )
+    day_sound::is_file_sound(&day.parts())
 }

@@ -11,26 +11,18 @@ ghost use Rattle.output.specs.Output.{answer};
 ghost use Rattle.planfile.specs.PlanText.{plan_writes, plan_leaves};
 ghost use Rattle.long_day.specs.LongDay.{long_limits, long_yard};
 
+use day::Refusal;
 use long_day::LongDay;
-use output::Wrote;
-use valuing::Valued;
 
 // The greatest size of a long day's plan file (specs/Size.antt).
 pub const LONG_PLAN_BYTES: usize = 367;
 
-// Writes the plan of a row. The output is lent: its first bytes become the plan file, the others stay; a refusal changes none. So the
-// text is put into a buffer first, which holds that of every such row (specs/Size.antt).
-pub fn write_long_plan(day: LongDay, row: &[u8], out: &mut [u8]) -> Wrote
+// Writes the plan of a row. The output is lent: its first bytes become the plan file, the others stay; a refusal changes none. The buffer
+// holds the text of every such row (specs/Size.antt).
+pub fn write_long_plan(day: LongDay, row: &[u8], out: &mut [u8]) -> Result<usize, Refusal>
     ensures result_value { answer result ≡ plan_writes long_limits (long_yard day) row.now (length out.old) }
     ensures out_after { out.new ≡ plan_leaves long_limits (long_yard day) row.now out.old }
 {
-    match long_value::value_long_assignment(day, row) {
-        Valued::Refused(refusal) => Wrote::Refused(refusal),
-        Valued::Values(value) => {
-            let numbers = day.numbers;
-            let mut text = [0u8; LONG_PLAN_BYTES];
-            let count = planfile::put_plan(&mut text, &numbers, row, day.trains, value);
-            output::write_text(&text[..count], out)
-        }
-    }
+    let mut text = [0u8; LONG_PLAN_BYTES];
+    planfile::write_plan_file(&day.parts(), row, &mut text, out)
 }

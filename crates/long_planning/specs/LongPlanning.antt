@@ -2,20 +2,19 @@
 -- that the beam search finds, with its four numbers, the number of slots after which more merged partial plans than the width remained, and
 -- the lower figure; or 9 with the first overbooked interval. And what it leaves in the row.
 -- Assumes nothing.
-use Rattle.std.specs.Prelude.{Bool, cond, ◌&&◌, List, [], ◌∷◌, ℕ, leb, length}
+use Rattle.std.specs.Prelude.{Bool, cond, ◌&&◌, List, [], ◌∷◌, ℕ, leb, length, Result}
 use Rattle.std.proofs.Math.Option.{Option, none, some}
 use Rattle.model.specs.Model.{Yard, Outcome, outcome}
 use Rattle.model.specs.Overbooked.{first_overbooked}
 use Rattle.day.specs.Sound.{sound}
-use Rattle.day.specs.Answer.{Answer, gives, refusal, Check, must, checked, holding}
+use Rattle.day.specs.Answer.{Answer, gives, answered, Check, must, checked, holding}
 use Rattle.day.specs.declared.Limits.{Limits}
 use Rattle.counting.specs.Counting.{outcome_of}
 use Rattle.planning.specs.Planning.{no_row, placed}
 use Rattle.beam.specs.Beam.{full_slots, beam_row}
 use Rattle.beam.specs.LowerFigure.{lower_figure}
 use Rattle.long_planning.specs.declared.LongValue.{LongValue}
-use Rattle.long_planning.specs.declared.LongPlanned.{LongPlanned}
-use Rattle.long_planning.specs.declared.LongPlanned.TheVariants.{Plan, Refused}
+use Rattle.day.specs.declared.Refusal.{Refusal}
 
 -- the row's four numbers; the number of full slots, those after which more merged partial plans than the width remained; the lower figure
 pub record LongOutcome : Type 0 where
@@ -28,9 +27,8 @@ pub record LongOutcome : Type 0 where
 abbrev pub long_outcome_of : LongValue → LongOutcome
 long_outcome_of v = record { row = outcome_of v.value; full = v.full; lower = v.lower }
 
-abbrev pub answer : LongPlanned → Answer LongOutcome
-answer (Plan v) = gives (long_outcome_of v)
-answer (Refused r) = refusal r
+abbrev pub answer : Result LongValue Refusal → Answer LongOutcome
+answer = answered long_outcome_of
 
 -- ---- the checks: 8 the record is sound, 21 the width is one of 1 to 64, 10 the row has n bytes
 

@@ -5,57 +5,58 @@
 #![tactic(auto)]
 
 ghost use Rattle.std.specs.Prelude.{◌≡◌};
-ghost use Rattle.day.specs.Answer.{judged};
+ghost use Rattle.day.specs.Answer.{answered, judged};
 ghost use Rattle.dayfile.specs.Reading.{read_day};
 ghost use Rattle.dayfile.specs.Calls.{day_or_zero};
 ghost use Rattle.long_day.specs.LongDay.{long_limits, long_yard};
 
-use day::Verdict;
-use dayread::FileRead;
+use day::Refusal;
 use long_day::LongDay;
 
 // What reading answers: the day, or a refusal 1 to 7 beside a record of zeros.
+// Stays: a struct, for `read_long_day` promises a record of zeros beside a refusal (the second fact of its contract).
 #[derive(Clone, Copy)]
 pub struct LongReading {
-    pub verdict: Verdict,
+    pub verdict: Result<(), Refusal>,
     pub day: LongDay,
+}
+
+// Reads the file of a long day into a record.
+pub fn read_long_record(text: &[u8]) -> Result<LongDay, Refusal>
+    ensures { answered long_yard result ≡ read_day long_limits text.now }
+{
+    let mut day = long_day::zero_long_day();
+    let mut groups: [u8; 36] = [0; 36];
+    let head = dayread::read_file(
+        long_day::long_limits(),
+        text,
+        &mut day.numbers,
+        &mut day.first,
+        &mut day.last,
+        &mut groups,
+        &mut day.boxes,
+    )?;
+    Ok(LongDay {
+        trains: head.trains,
+        tracks: head.tracks,
+        slots: head.slots,
+        revisit: head.revisit,
+        split: head.split,
+        ..day
+    })
 }
 
 // Reads the file of a long day.
 pub fn read_long_day(text: &[u8]) -> LongReading
     ensures { (judged result.verdict (long_yard result.day) ≡ read_day long_limits text.now) × (long_yard result.day ≡ day_or_zero long_limits (read_day long_limits text.now)) }
 {
-    let mut numbers: [u32; 36] = [0; 36];
-    let mut first: [u8; 36] = [0; 36];
-    let mut last: [u8; 36] = [0; 36];
-    let mut groups: [u8; 36] = [0; 36];
-    let mut boxes: [u8; 1296] = [0; 1296];
-    let read = dayread::read_file(
-        long_day::long_limits(),
-        text,
-        &mut numbers,
-        &mut first,
-        &mut last,
-        &mut groups,
-        &mut boxes,
-    );
-    match read {
-        FileRead::Accepted(head) => LongReading {
-            verdict: Verdict::Accepted,
-            day: LongDay {
-                trains: head.trains,
-                tracks: head.tracks,
-                slots: head.slots,
-                revisit: head.revisit,
-                split: head.split,
-                numbers,
-                first,
-                last,
-                boxes,
-            },
+    match read_long_record(text) {
+        Ok(day) => LongReading {
+            verdict: Ok(()),
+            day,
         },
-        FileRead::Refused(refusal) => LongReading {
-            verdict: Verdict::Refused(refusal),
+        Err(refusal) => LongReading {
+            verdict: Err(refusal),
             day: long_day::zero_long_day(),
         },
     }

@@ -2,14 +2,14 @@
 -- The best plan of a day as a function: the best of all its rows, or none. A day has at most one best plan, and it has one exactly
 -- where it has an allowed row.
 -- Assumes nothing.
-use Rattle.std.specs.Prelude.{◌≡◌, refl, Bool, List, ℕ, zero, suc, ◌≤◌, ◌<◌, T, eqb}
+use Rattle.std.specs.Prelude.{◌≡◌, refl, List, ℕ, zero, suc, ◌≤◌, ◌<◌, T, eqb}
 use Rattle.std.proofs.Common.{sym, ap, ◌∙◌, subst, le_antisymm, arith, ext_get_or, eq-eqb, eqb-true}
 use Rattle.std.proofs.Math.Option.{Option, none, some}
 use Rattle.sets.specs.Mask.{has, has-mask}
 use Rattle.model.specs.Model.{Yard, received, slot_of, revisits, cost, allowed, slot_mask, lower, by_key, slot_total, by_sets, precedes, Best, NoRow}
 use Rattle.model.specs.Rows.{Fitting, all_rows}
 use Rattle.model.proofs.Rows.{allowed_is, allowed-listed}
-use Rattle.model.specs.Order.{Order, pick, Picked}
+use Rattle.model.specs.Order.{Order, Picked}
 use Rattle.model.proofs.Order.{key_not, key_order, key_total, converse, along, lower_order, lower_same, picked}
 use Rattle.model.specs.BestOf.{better, best_of, Says}
 

@@ -1,7 +1,7 @@
 -- Laws of Cells.antt of specs/.
 -- A square table that is stored row after row: where an entry stands.
 -- Assumes nothing.
-use Rattle.std.specs.Prelude.{List, ℕ, ◌+◌, ◌*◌, ◌≤◌, ◌<◌, length}
+use Rattle.std.specs.Prelude.{List, ℕ, ◌+◌, ◌*◌, ◌<◌, length}
 use Rattle.std.proofs.Common.{arith}
 use Rattle.std.proofs.Math.Arith.{digits_lt}
 use Rattle.model.specs.Cells.{InTable}

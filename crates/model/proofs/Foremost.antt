@@ -4,15 +4,14 @@
 -- (`best_foremost`, `foremost_best`). Neither `precedes` nor the order of a key before an order stands in it. And whatever chose among the
 -- cheapest rows before, the plan costs the same (`same_cost`), and where there is one such row it is the plan (`same_plan`).
 -- Assumes nothing.
-use Rattle.std.specs.Prelude.{◌≡◌, ℕ, suc, ◌≤◌, ◌<◌}
+use Rattle.std.specs.Prelude.{◌≡◌, ℕ, suc, ◌≤◌}
 use Rattle.std.proofs.Math.Logic.{⊎_elim}
 use mathlib.Core.List.{List}
 use Rattle.std.proofs.Common.{le_antisymm, arith}
 use Rattle.std.proofs.Math.Dec.{T}
-use Rattle.fold.specs.Fold.{sum}
-use Rattle.model.specs.Model.{Yard, received, slot_of, revisits, outcome, cost, allowed, slot_mask, by_key, slot_total, by_sets, precedes, Best}
+use Rattle.model.specs.Model.{Yard, cost, slot_mask, by_key, slot_total, by_sets, precedes, Best}
 use Rattle.model.proofs.Order.{key_not, key_cases, lower_not, not_lower}
-use Rattle.model.specs.Foremost.{CheapestOf, Cheapest, AsCheap, NoFewerRevisits, NoSmallerSum, NoLargerSet, Foremost, late, total}
+use Rattle.model.specs.Foremost.{Cheapest, AsCheap, NoFewerRevisits, Foremost, late, total}
 
 module _ (y : Yard) (row : List ℕ) where
   pub best_foremost : Best y row → Foremost y row

@@ -9,7 +9,7 @@ use Rattle.std.proofs.Math.Bool.{true, false, cond}
 use Rattle.std.proofs.Math.Dec.{eqb}
 use Rattle.fold.specs.Fold.{sum}
 use Rattle.fold.specs.Sums.{sum_ext, sum-add, sum_zero}
-use Rattle.model.specs.Model.{Yard, received, slot_of, split_boxes, splits_to, splits, direct_boxes, direct_to, direct, all_boxes, boxes_of, Outcome, outcome}
+use Rattle.model.specs.Model.{Yard, received, slot_of, split_boxes, splits_to, splits, direct_boxes, direct_to, direct, all_boxes, outcome}
 use Rattle.model.specs.Moves.{AllMoved}
 
 -- a number is counted where a test passes or where it fails

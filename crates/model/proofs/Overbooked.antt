@@ -14,7 +14,6 @@ use Rattle.std.proofs.Math.Dec.{leb, leb→le}
 use borrow.Author.Tests.{leb-true, leb-false}
 use Rattle.fold.specs.Test.{both_of}
 use Rattle.fold.specs.Counting.{le_or_lt}
-use Rattle.fold.specs.Fold
 use Rattle.fold.specs.Fold.{lowest, lowest-passes, lowest-before, some_at, some_of}
 use Rattle.model.specs.Model.{Yard, overbooked, exceeds, FirstOverbooked}
 use Rattle.model.specs.Overbooked.{Interval, overbooked_from, overbooked_first, overbooked_last, first_overbooked, SaysFirst}

@@ -1,13 +1,11 @@
 -- The best plan of a day as a function: the best of all its rows, or none. A day has at most one best plan, and it has one exactly
 -- where it has an allowed row.
 -- Assumes nothing.
-use Rattle.std.specs.Prelude.{◌≡◌, refl, Bool, List, ℕ, zero, suc, ◌≤◌, ◌<◌, T, eqb}
-use Rattle.std.proofs.Common.{sym, ap, ◌∙◌, subst, le_antisymm, arith, ext_get_or, eq-eqb, eqb-true}
+use Rattle.std.specs.Prelude.{Bool, List, ℕ}
 use Rattle.std.proofs.Math.Option.{Option, none, some}
-use Rattle.sets.specs.Mask.{has, has-mask}
-use Rattle.model.specs.Model.{Yard, received, slot_of, revisits, cost, allowed, slot_mask, lower, by_key, slot_total, by_sets, precedes, Best, NoRow}
-use Rattle.model.specs.Rows.{Fitting, all_rows}
-use Rattle.model.specs.Order.{Order, pick, Picked}
+use Rattle.model.specs.Model.{Yard, cost, allowed, by_key, precedes, Best, NoRow}
+use Rattle.model.specs.Rows.{all_rows}
+use Rattle.model.specs.Order.{pick}
 
 -- ---- definition
 

@@ -1,8 +1,6 @@
 -- A square table that is stored row after row: where an entry stands.
 -- Assumes nothing.
-use Rattle.std.specs.Prelude.{List, ℕ, ◌+◌, ◌*◌, ◌≤◌, ◌<◌, length}
-use Rattle.std.proofs.Common.{arith}
-use Rattle.std.proofs.Math.Arith.{digits_lt}
+use Rattle.std.specs.Prelude.{List, ℕ, ◌*◌, ◌≤◌, ◌<◌, length}
 
 -- the table has `width` rows of that length, and (i, j) is one of its entries
 pub record InTable (width : ℕ) (table : List ℕ) (i j : ℕ) : Type 0 where

@@ -8,21 +8,8 @@
 -- (`cheapest_fewest`, `fewest_cheapest`; of the allowed ones `fewest_exactly`), and the best plan is such a row (`best_fewest`). The order of
 -- rows of equal cost has no part in it. It has where a revisit weighs one split move less: `best_fewest_below`.
 -- Assumes nothing.
-use Rattle.std.specs.Prelude.{◌≡◌, Bool, cond, List, ◌↔◌, ◌⊎◌, ℕ, zero, suc, ◌+◌, ◌*◌, ◌≤◌, ◌<◌, T, ltb}
-use Rattle.std.proofs.Math.Path.{refl}
-use Rattle.std.proofs.Common.{sym, ◌∙◌, inl, inr, le_antisymm, mul-suc, lt-ltb, ne_eqb}
-use Rattle.std.proofs.Math.Bool.{true, false}
-use Rattle.std.proofs.Math.Logic.{⊎_elim}
-use Rattle.std.proofs.Math.Nat.{le_trans, mul-le-mul_left, mul-add}
-use native.Mathlib.Omega.{arith}
-use Rattle.std.proofs.Math.Dec.{ltb→lt}
-use Rattle.fold.specs.Test.{both_of}
-use Rattle.fold.specs.Fold.{bit, sum, count, some_of}
-use Rattle.fold.specs.Sums.{sum_ext, sum_le, term_le_sum}
-use Rattle.fold.specs.Counting.{le_or_lt}
-use Rattle.model.specs.Model.{Yard, received, slot_of, supplies, late_supplier, revisiting, revisits, split_boxes, splits_to, splits, all_boxes, boxes_of, weighed, outcome, cost, fitting, allowed, by_key, slot_total, by_sets, precedes, Best}
-use Rattle.model.specs.Foremost.{CheapestOf, Cheapest}
-use Rattle.model.specs.Program.{suggested_weight}
+use Rattle.std.specs.Prelude.{◌≡◌, List, ℕ, ◌*◌, ◌≤◌, T}
+use Rattle.model.specs.Model.{Yard, boxes_of, outcome, allowed}
 
 -- ---- definitions
 

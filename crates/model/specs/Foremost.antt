@@ -4,12 +4,10 @@
 -- cheapest rows before, the plan costs the same (`same_cost`), and where there is one such row it is the plan (`same_plan`).
 -- Assumes nothing.
 use Rattle.std.specs.Prelude.{◌≡◌, ℕ, suc, ◌≤◌, ◌<◌}
-use Rattle.std.proofs.Math.Logic.{⊎_elim}
 use mathlib.Core.List.{List}
-use Rattle.std.proofs.Common.{le_antisymm, arith}
 use Rattle.std.proofs.Math.Dec.{T}
 use Rattle.fold.specs.Fold.{sum}
-use Rattle.model.specs.Model.{Yard, received, slot_of, revisits, outcome, cost, allowed, slot_mask, by_key, slot_total, by_sets, precedes, Best}
+use Rattle.model.specs.Model.{Yard, received, slot_of, revisits, outcome, cost, allowed, slot_mask, slot_total}
 
 -- a row of some kind, and none of that kind is cheaper; an allowed one
 abbrev pub CheapestOf : Yard → (List ℕ → Type 0) → List ℕ → Type 0

@@ -1,20 +1,11 @@
 -- Orders given by a test, "the first comes before the second": what makes one, how a key goes before an order, and the best of a list.
 -- Nothing here knows of trains or rows.
 -- Assumes nothing.
-use Rattle.std.specs.Prelude.{◌≡◌, Bool, ◌&&◌, ◌||◌, ◌⊎◌, ℕ, zero, suc, ◌≤◌, ◌<◌, ltb, eqb}
-use Rattle.std.proofs.Math.Path.{refl}
-use Rattle.std.proofs.Common.{sym, subst, le_antisymm, le_of_suc-le-suc, not-suc-le-zero, arith, ltb→lt, lt→ltb, eqb→eq, eq-eqb}
-use Rattle.std.proofs.Math.Bool.{true, false, cond}
-use Rattle.std.proofs.Math.Logic.{inl, inr, ⊎_elim}
+use Rattle.std.specs.Prelude.{Bool}
+use Rattle.std.proofs.Math.Bool.{cond}
 use Rattle.std.proofs.Math.Option.{Option, none, some}
-use mathlib.Core.List.Memᴰ
 use mathlib.Core.List.{List, [], ◌∷◌, Memᴰ}
 use Rattle.std.proofs.Math.Dec.{T}
-use Rattle.fold.specs.Test.{of_true, of_false, same_test_lem, both, both_of, left, right, either_of}
-use Rattle.fold.specs.Counting.{le_or_lt}
-use Rattle.fold.specs.Fold
-use Rattle.fold.specs.Fold.{each, each_at, each_i, some_at, some_of}
-use Rattle.model.specs.Model.{lower, by_key}
 
 -- of two values not both come before the other, and not coming before is transitive
 pub record Order {X : Type 0} (before : X → X → Bool) : Type 0 where

@@ -1,21 +1,13 @@
 -- The first overbooked interval of a day as a function (01: of all overbooked stretches the smallest first slot, and for it the
 -- smallest last slot), and that it names just that one.
 -- Assumes nothing.
-use Rattle.std.specs.Prelude.{◌≡◌, Bool, cond, ◌&&◌, T}
-use Rattle.std.proofs.Math.Path.{refl}
-use Rattle.std.proofs.Common.{sym, subst, le_antisymm, le_of_suc-le-suc}
-use Rattle.std.proofs.Math.Bool.{true, false}
-use Rattle.std.proofs.Math.Logic.{⊎_elim}
+use Rattle.std.specs.Prelude.{Bool, cond, T}
 use Rattle.std.proofs.Math.Option.{Option, none, some}
-use Prim.Native.Nat.{ℕ, zero, suc, ◌≤◌, ◌<◌}
-use native.Mathlib.Omega.{arith}
-use Rattle.std.proofs.Math.Dec.{leb, leb→le}
-use borrow.Author.Tests.{leb-true, leb-false}
-use Rattle.fold.specs.Test.{both_of}
-use Rattle.fold.specs.Counting.{le_or_lt}
+use Prim.Native.Nat.{ℕ, suc}
+use Rattle.std.proofs.Math.Dec.{leb}
 use Rattle.fold.specs.Fold
 use Rattle.fold.specs.Fold.{lowest, lowest-passes, lowest-before, some_at, some_of}
-use Rattle.model.specs.Model.{Yard, overbooked, exceeds, FirstOverbooked}
+use Rattle.model.specs.Model.{Yard, overbooked, FirstOverbooked}
 
 -- ---- definition
 

@@ -1,13 +1,9 @@
 -- Fitting and allowed rows: the test as a record of statements, and the complete list of all rows of n slots in 1..m.
 -- Assumes nothing.
-use Rattle.std.specs.Prelude.{◌≡◌, refl, Bool, ◌&&◌, ℕ, zero, suc, ◌≤◌, ◌<◌, T, leb, eqb, length}
-use Rattle.std.proofs.Common.{sym, subst, ⊎_elim, zero-le, suc-le-suc, eq-or-lt_of_le, le_of_suc-le-suc, arith, eq-eqb}
-use mathlib.Core.List.Memᴰ
-use mathlib.Core.List.{List, [], ◌∷◌, ◌++◌, map, Memᴰ}
-use Rattle.std.proofs.Math.Dec.{leb→le, le→leb, eqb→eq}
-use Rattle.fold.specs.Test.{of_true, both, both_of}
-use Rattle.fold.specs.Fold.{each, each_at, each_i}
-use Rattle.model.specs.Model.{Yard, first_slot, last_slot, slot_of, in_slots, in_time, in_window, load, roomy, fitting, kept, allowed}
+use Rattle.std.specs.Prelude.{◌≡◌, Bool, ℕ, zero, suc, ◌≤◌, ◌<◌, eqb, length}
+use mathlib.Core.List.{List, [], ◌∷◌, ◌++◌, map}
+use Rattle.fold.specs.Fold.{each}
+use Rattle.model.specs.Model.{Yard, first_slot, last_slot, slot_of, in_slots, in_window, load, roomy}
 
 -- ---- what the test of a fitting row says
 

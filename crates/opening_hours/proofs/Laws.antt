@@ -18,8 +18,7 @@ use Rattle.slot_times.specs.Slots.{slots_between, first_slot, last_slot}
 use Rattle.slot_times.proofs.Laws.{slots_divided}
 use Rattle.opening_hours.specs.declared.Calendar.{Calendar}
 use Rattle.opening_hours.specs.declared.Hours.{Hours}
-use Rattle.opening_hours.specs.declared.Windowed.{Windowed}
-use Rattle.opening_hours.specs.Calendar.{hours_at, closed_date, is_minute, hours_valid, closed_valid, calendar_valid, is_closed, hours_on, used_slots, date_valid, slots_on, slots_or_zero, train_valid, window, first_of, last_of, window_of, window_or_zero, Says}
+use Rattle.opening_hours.specs.Calendar.{hours_at, closed_date, is_minute, hours_valid, closed_valid, calendar_valid, is_closed, hours_on, used_slots, date_valid, slots_on, slots_or_zero, train_valid, window, first_of, last_of, window_of, window_or_zero}
 use Rattle.opening_hours.specs.Laws.{ValidCalendar}
 
 pub minute_is : (x : ℕ) → T (is_minute x) → x ≤ 1439
@@ -111,9 +110,9 @@ module _ (c : Calendar) (d : Date) where
 -- ---- the window of a train, from what the code has found
 
 module _ (c : Calendar) (d : Date) (arrival departure : ℕ) where
-  pub says_out_of_range : train_valid c d arrival departure ≡ false → {r : Windowed} → Says (refuses 23 (0 ∷ [])) r → Says (window_of c d arrival departure) r
+  pub says_out_of_range : train_valid c d arrival departure ≡ false → refuses 23 (0 ∷ []) ≡ window_of c d arrival departure
   unfolding window_of
-  says_out_of_range e s = rw e s
+  says_out_of_range e = rw e
 
   -- from the code's hours, used slots, first and last slot
   module _ (valid : train_valid c d arrival departure ≡ true) {h : Hours} {used first last : ℕ} (on : h ≡ hours_on c d) (as_many : used ≡ used_slots c d)
@@ -124,13 +123,13 @@ module _ (c : Calendar) (d : Date) (arrival departure : ℕ) where
     last_is : last ≡ last_of c d departure
     last_is = to ∙ λ i. last_slot (on i).opens c.length (as_many i) departure
 
-    pub says_no_window : last < first → {r : Windowed} → Says (refuses 24 (0 ∷ [])) r → Says (window_of c d arrival departure) r
+    pub says_no_window : last < first → refuses 24 (0 ∷ []) ≡ window_of c d arrival departure
     unfolding window_of
-    says_no_window b s = rw (valid, lt-leb (first_of c d arrival) (last_of c d departure) (omega (arith, first_is, last_is))) s
+    says_no_window b = rw (valid, lt-leb (first_of c d arrival) (last_of c d departure) (omega (arith, first_is, last_is)))
 
-    pub says_window : first ≤ last → (gives (window first last) ≡ window_of c d arrival departure) × (window first last ≡ window_or_zero (window_of c d arrival departure))
+    pub says_window : first ≤ last → gives (window first last) ≡ window_of c d arrival departure
     unfolding window_of
     says_window b =
         let given : window first last ≡ window (first_of c d arrival) (last_of c d departure) = λ i. window (first_is i) (last_is i) in
         let ordered = le-leb (first_of c d arrival) (last_of c d departure) (omega (arith, first_is, last_is)) in
-        (ap gives given ∙ rw (valid, ordered), given ∙ rw (valid, ordered))
+        ap gives given ∙ rw (valid, ordered)

@@ -1,16 +1,15 @@
 -- A yard's calendar and what the calls of order 11 of document 02 answer, for any calendar, date and minutes: 23 where something that is
 -- handed over is out of range, 24 where the train has no slot, else the slots of the date or the train's window.
 -- Assumes nothing.
-use Rattle.std.specs.Prelude.{◌≡◌, Bool, cond, ◌&&◌, List, [], ◌∷◌, ℕ, leb, get_or}
+use Rattle.std.specs.Prelude.{Bool, cond, ◌&&◌, List, [], ◌∷◌, ℕ, leb, get_or}
 use Rattle.fold.specs.Fold.{some, each}
-use Rattle.day.specs.Answer.{Answer, gives, judged, where_given, must, checked}
+use Rattle.day.specs.Answer.{Answer, gives, where_given, must, checked}
 use Rattle.dates.specs.declared.Date.{Date}
 use Rattle.dates.specs.Dates.{date, between, is_date, same_date, weekday}
 use Rattle.slot_times.specs.Slots.{slots_between, first_slot, last_slot}
 use Rattle.opening_hours.specs.declared.Calendar.{Calendar}
 use Rattle.opening_hours.specs.declared.Hours.{Hours}
 use Rattle.opening_hours.specs.declared.Window.{Window}
-use Rattle.opening_hours.specs.declared.Windowed.{Windowed}
 
 -- ---- what 23 asks of a calendar: everything in it, but for the places of closed dates past their count
 
@@ -87,7 +86,3 @@ window_of c d arrival departure =
 -- zeros beside a refusal
 abbrev pub window_or_zero : Answer Window → Window
 window_or_zero a = where_given a (window 0 0) λ w. w
-
-pub record Says (a : Answer Window) (r : Windowed) : Type 0 where
-  pub answer : judged r.verdict r.window ≡ a
-  pub beside : r.window ≡ window_or_zero a

@@ -17,8 +17,7 @@ use Rattle.slot_times.specs.Slots.{slots_between, first_slot, last_slot}
 use Rattle.slot_times.proofs.Laws.{slots_divided}
 use Rattle.opening_hours.specs.declared.Calendar.{Calendar}
 use Rattle.opening_hours.specs.declared.Hours.{Hours}
-use Rattle.opening_hours.specs.declared.Windowed.{Windowed}
-use Rattle.opening_hours.specs.Calendar.{hours_at, closed_date, is_minute, hours_valid, closed_valid, calendar_valid, is_closed, hours_on, used_slots, date_valid, slots_on, slots_or_zero, train_valid, window, first_of, last_of, window_of, window_or_zero, Says}
+use Rattle.opening_hours.specs.Calendar.{hours_at, closed_date, is_minute, hours_valid, closed_valid, calendar_valid, is_closed, hours_on, used_slots, date_valid, slots_on, slots_or_zero, train_valid, window, first_of, last_of, window_of, window_or_zero}
 
 -- ---- a valid calendar, field by field
 

@@ -6,12 +6,12 @@
 
 ghost use Rattle.std.specs.Prelude.{◌≡◌, ◌≤◌, ◌<◌, T};
 ghost use Rattle.fold.specs.Fold.{each};
-ghost use Rattle.day.specs.Answer.{refusal, judged};
+ghost use Rattle.day.specs.Answer.{answered, judged};
 ghost use Rattle.dates.specs.Dates.{is_date};
-ghost use Rattle.opening_hours.specs.Calendar.{hours_valid, closed_valid, calendar_valid, is_closed, hours_on, used_slots, date_valid, slots_on, slots_or_zero, window_of, window_or_zero, Says};
+ghost use Rattle.opening_hours.specs.Calendar.{hours_valid, closed_valid, calendar_valid, is_closed, hours_on, used_slots, date_valid, slots_on, slots_or_zero, window_of, window_or_zero};
 
 use dates::Date;
-use day::{Refusal, Verdict};
+use day::Refusal;
 
 // The greatest minute of a day, counted from midnight; the closed dates that a calendar has at most; the longest slot.
 const LAST_MINUTE: u32 = 1439;
@@ -38,9 +38,10 @@ pub struct Calendar {
 }
 
 // The number of slots that a date uses, 0 beside a refusal.
+// Stays: a count beside its verdict, since the second clause of `slots_on` promises the 0.
 #[derive(Clone, Copy)]
 pub struct SlotCount {
-    pub verdict: Verdict,
+    pub verdict: Result<(), Refusal>,
     pub slots: u32,
 }
 
@@ -52,34 +53,24 @@ pub struct Window {
 }
 
 // A train's window, 0 and 0 beside a refusal.
+// Stays: a window beside its verdict, since the second clause of `train_window` promises the zeros.
 #[derive(Clone, Copy)]
 pub struct Windowed {
-    pub verdict: Verdict,
+    pub verdict: Result<(), Refusal>,
     pub window: Window,
 }
 
 fn are_hours_valid(hours: [Hours; 7]) -> bool
     ensures { result ≡ each 7 (hours_valid hours) }
 {
-    for w in 0usize..7 {
-        let on = hours[w];
-        if !((on.opens <= LAST_MINUTE) & (on.closes <= LAST_MINUTE)) {
-            return false;
-        }
-    }
-    true
+    (0..7usize).all(|w| hours[w].opens <= LAST_MINUTE && hours[w].closes <= LAST_MINUTE)
 }
 
 fn are_closed_valid(closed: [Date; 32], count: usize) -> bool
     requires { count ≤ 32 }
     ensures { result ≡ each count (closed_valid closed) }
 {
-    for i in 0..count {
-        if !dates::is_date(closed[i]) {
-            return false;
-        }
-    }
-    true
+    (0..count).all(|i| dates::is_date(closed[i]))
 }
 
 fn is_calendar_valid(calendar: Calendar) -> bool
@@ -88,10 +79,8 @@ fn is_calendar_valid(calendar: Calendar) -> bool
     if MOST_CLOSED < calendar.count {
         return false;
     }
-    let hours = calendar.hours;
-    let closed = calendar.closed;
-    are_hours_valid(hours)
-        & are_closed_valid(closed, calendar.count)
+    are_hours_valid(calendar.hours)
+        & are_closed_valid(calendar.closed, calendar.count)
         & ((1 <= calendar.length) & (calendar.length <= LONGEST_SLOT))
 }
 
@@ -106,12 +95,7 @@ fn is_closed_on(closed: [Date; 32], count: usize, date: Date) -> bool
     requires { count ≤ 32 }
     ensures { result ≡ is_closed closed count date }
 {
-    for i in 0..count {
-        if dates::is_same(closed[i], date) {
-            return true;
-        }
-    }
-    false
+    (0..count).any(|i| closed[i] == date)
 }
 
 // The hours of the date's weekday.
@@ -119,8 +103,7 @@ fn hours_on(calendar: Calendar, date: Date) -> Hours
     requires { T (is_date date) }
     ensures { result ≡ hours_on calendar date }
 {
-    let w = dates::weekday_of(date);
-    calendar.hours[w]
+    calendar.hours[dates::weekday_of(date)]
 }
 
 // How many slots a date uses whose weekday has these hours.
@@ -128,8 +111,7 @@ fn used_slots(calendar: Calendar, date: Date, hours: Hours) -> u32
     requires { T (date_valid calendar date) × (hours ≡ hours_on calendar date) }
     ensures { (result ≡ used_slots calendar date) × (result ≤ 8) }
 {
-    let closed = calendar.closed;
-    if is_closed_on(closed, calendar.count, date) {
+    if is_closed_on(calendar.closed, calendar.count, date) {
         return 0;
     }
     slot_times::slots_between(hours.opens, hours.closes, calendar.length)
@@ -142,25 +124,37 @@ pub fn slots_on(calendar: Calendar, date: Date) -> SlotCount
 {
     if !is_date_valid(calendar, date) {
         return SlotCount {
-            verdict: Verdict::Refused(Refusal::CalendarOutOfRange),
+            verdict: Err(Refusal::CalendarOutOfRange),
             slots: 0,
         };
     }
     let hours = hours_on(calendar, date);
     SlotCount {
-        verdict: Verdict::Accepted,
+        verdict: Ok(()),
         slots: used_slots(calendar, date, hours),
     }
 }
 
-// A refusal, beside zeros.
-fn refused(given: Refusal) -> Windowed
-    ensures { Says (refusal given) result }
+// The window of a train on a date, or why it has none.
+fn window_on(
+    calendar: Calendar,
+    date: Date,
+    arrival: u32,
+    departure: u32,
+) -> Result<Window, Refusal>
+    ensures { answered (λ window. window) result ≡ window_of calendar date arrival departure }
 {
-    Windowed {
-        verdict: Verdict::Refused(given),
-        window: Window { first: 0, last: 0 },
+    if !(is_date_valid(calendar, date) & ((arrival <= LAST_MINUTE) & (departure <= LAST_MINUTE))) {
+        return Err(Refusal::CalendarOutOfRange);
     }
+    let hours = hours_on(calendar, date);
+    let used = used_slots(calendar, date, hours);
+    let first = slot_times::first_slot(hours.opens, calendar.length, used, arrival);
+    let last = slot_times::last_slot(hours.opens, calendar.length, used, departure);
+    if last < first {
+        return Err(Refusal::NoWindow);
+    }
+    Ok(Window { first, last })
 }
 
 // The window of a train on a date: the earliest used slot that starts at or after arrival, and the latest that ends at or before departure.
@@ -169,18 +163,14 @@ pub fn train_window(calendar: Calendar, date: Date, arrival: u32, departure: u32
     ensures window_value { judged result.verdict result.window ≡ window_of calendar date arrival departure }
     ensures window_value_2 { result.window ≡ window_or_zero (window_of calendar date arrival departure) }
 {
-    if !(is_date_valid(calendar, date) & ((arrival <= LAST_MINUTE) & (departure <= LAST_MINUTE))) {
-        return refused(Refusal::CalendarOutOfRange);
-    }
-    let hours = hours_on(calendar, date);
-    let used = used_slots(calendar, date, hours);
-    let first = slot_times::first_slot(hours.opens, calendar.length, used, arrival);
-    let last = slot_times::last_slot(hours.opens, calendar.length, used, departure);
-    if last < first {
-        return refused(Refusal::NoWindow);
-    }
-    Windowed {
-        verdict: Verdict::Accepted,
-        window: Window { first, last },
+    match window_on(calendar, date, arrival, departure) {
+        Ok(window) => Windowed {
+            verdict: Ok(()),
+            window,
+        },
+        Err(refusal) => Windowed {
+            verdict: Err(refusal),
+            window: Window { first: 0, last: 0 },
+        },
     }
 }

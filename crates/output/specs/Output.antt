@@ -1,16 +1,14 @@
 -- What a call that writes a text answers and leaves, in the numbers of document 01: 10 where the output is too short, else the count of
 -- bytes; the text stands in the first bytes and those beyond stay; a refusal changes no byte.
 -- Assumes nothing.
-use Rattle.std.specs.Prelude.{List, [], ◌∷◌, ◌++◌, ℕ, leb, length, drop}
-use Rattle.day.specs.Answer.{Answer, gives, refuses, refusal, Check, must, checked}
-use Rattle.output.specs.declared.Wrote.{Wrote}
-use Rattle.output.specs.declared.Wrote.TheVariants.{Bytes, Refused}
+use Rattle.std.specs.Prelude.{List, [], ◌∷◌, ◌++◌, ℕ, leb, length, drop, Result}
+use Rattle.day.specs.Answer.{Answer, gives, refuses, answered, Check, must, checked}
+use Rattle.day.specs.declared.Refusal.{Refusal}
 
 -- ---- the code's answer in 01's numbers
 
-abbrev pub answer : Wrote → Answer ℕ
-answer (Bytes count) = gives count
-answer (Refused r) = refusal r
+abbrev pub answer : Result ℕ Refusal → Answer ℕ
+answer = answered λ count. count
 
 -- ---- a text and an output of a given size: a call's own checks come first, then 10
 

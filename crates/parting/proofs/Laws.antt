@@ -12,7 +12,7 @@ use Rattle.fold.specs.Test.{of_true}
 use Rattle.fold.specs.Fold.{bit, sum, count}
 use Rattle.fold.specs.Sums.{sum_ext, sum_cons}
 use Rattle.parting.specs.Parting.{before, days_from, days, empty_at, empty_lines, joined_files}
-use Rattle.parting.specs.Laws.{lined, Whole, AllWhole}
+use Rattle.parting.specs.Laws.{lined, AllWhole}
 
 -- ---- a text is empty or not
 

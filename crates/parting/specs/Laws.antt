@@ -1,16 +1,10 @@
 -- What the parting of a text keeps: a text that is not empty has one day more than it has empty lines; its days, joined again, are the text;
 -- and files without an empty line, each of whose lines ends, come back where they were joined.
 -- Assumes nothing.
-use Rattle.std.specs.Prelude.{◌≡◌, refl, Bool, not, ◌&&◌, ℕ, zero, suc, ◌+◌, ◌≤◌, ◌<◌, eqb, length}
-use Rattle.std.proofs.Common.{sym, ap₂, ◌∙◌, arith, eqb→eq, length-append}
-use Rattle.std.proofs.Math.Path.{ap}
+use Rattle.std.specs.Prelude.{Bool, not, ◌&&◌, ℕ, ◌<◌, eqb, length}
 use Rattle.std.proofs.Math.Bool.{true, false, cond}
-use mathlib.Core.List.{List, [], ◌∷◌, ◌++◌, append-nil}
+use mathlib.Core.List.{List, [], ◌∷◌}
 use Rattle.std.proofs.Math.Dec.{T}
-use Rattle.fold.specs.Test.{of_true}
-use Rattle.fold.specs.Fold.{bit, sum, count}
-use Rattle.fold.specs.Sums.{sum_ext, sum_cons}
-use Rattle.parting.specs.Parting.{before, days_from, days, empty_at, empty_lines, joined_files}
 
 -- ---- files without an empty line, all of whose lines end
 

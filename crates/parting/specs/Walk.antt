@@ -1,13 +1,10 @@
 -- The walk through a text: a loop looks for the next empty line from a place where a line begins; what lies between is the first day of
 -- the rest of the text.
 -- Assumes nothing.
-use Rattle.std.specs.Prelude.{◌≡◌, refl, Bool, false, cond, ◌&&◌, ℕ, suc, ◌+◌, ◌-◌, ◌≤◌, ◌<◌, leb, eqb, length, get_or, take, drop}
-use Rattle.std.proofs.Common.{sym, ◌∙◌, add-one, arith, length-drop, drop_of_length-le, take-suc, drop-cons, get_or-drop, le-leb}
-use Rattle.std.proofs.Math.Path.{ap, ap₂}
+use Rattle.std.specs.Prelude.{◌≡◌, Bool, ℕ, ◌+◌, ◌-◌, ◌≤◌, ◌<◌, length, take, drop}
 use Rattle.std.proofs.Math.Bool.{true}
-use mathlib.Core.List.{List, [], ◌∷◌, ◌++◌, append_assoc, append-nil}
-use Rattle.std.proofs.lemmas.Bool.{lt-leb}
-use Rattle.parting.specs.Parting.{before, days_from, days}
+use mathlib.Core.List.{List, [], ◌∷◌, ◌++◌}
+use Rattle.parting.specs.Parting.{days_from, days}
 
 -- the bytes from a to b, as a part of a lent text is
 abbrev pub part : List ℕ → ℕ → ℕ → List ℕ

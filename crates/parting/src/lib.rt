@@ -1,7 +1,7 @@
 // The parting of a text into days (document 02, order 10): where the next empty line is, and whether a text has more days than so many.
 //
 // Proved: what lies up to the next empty line is the first day of the rest of the text, for every text and place; `has_at_most` compares the
-// number of days of specs/Parting.antt. specs/Laws.antt and Accepted.antt: the number of days, and that joined day files come back.
+// number of days of specs/Parting.antt. proofs/Laws.antt and Accepted.antt: the number of days, and that joined day files come back.
 // Assumes nothing.
 #![tactic(auto)]
 
@@ -14,37 +14,31 @@ pub fn next_empty(text: &[u8], at: usize) -> usize
     requires { at ≤ length text.now }
     ensures { NextEmpty text.now at result }
 {
-    let mut i = at;
     let mut start = true;
-    while i < text.len() {
-        let ends = text[i] == 10;
+    for (i, &byte) in text[at..].iter().enumerate() {
+        let ends = byte == b'\n';
         if start & ends {
-            return i;
+            return at + i;
         }
         start = ends;
-        i += 1;
     }
-    i
+    text.len()
 }
 
 // Whether a text has at most `most` days. It stops at the first day too many.
 pub fn has_at_most(text: &[u8], most: usize) -> bool
     ensures { result ≡ leb (length (days text.now)) most }
 {
-    if text.len() == 0 {
+    if text.is_empty() {
         return true;
     }
     let mut at = 0;
-    let mut n: usize = 0;
-    loop {
-        if most <= n {
-            return false;
-        }
+    for _day in 0..most {
         let end = next_empty(text, at);
         if text.len() <= end {
             return true;
         }
-        n += 1;
         at = end + 1;
     }
+    false
 }

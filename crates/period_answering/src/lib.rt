@@ -10,8 +10,7 @@ ghost use Rattle.output.specs.Output.{answer};
 ghost use Rattle.report_text.specs.Size.{report_bytes};
 ghost use Rattle.period_answering.specs.PeriodAnswering.{period_text, period_writes, period_leaves};
 
-use day::Verdict;
-use output::Wrote;
+use day::Refusal;
 
 // Bytes that suffice for every report (report_text's Size.antt).
 pub const REPORT_BYTES: usize = 512;
@@ -24,16 +23,15 @@ fn put_period(text: &[u8], out: &mut [u8]) -> usize
     let mut cost = [0u64; 4096];
     let mut choice = [0u16; 32768];
     let reported = reporting::report_period(text, &mut cost, &mut choice);
-    let verdict = reported.verdict;
-    match verdict {
-        Verdict::Accepted => report_text::put_report(out, reported.report),
-        Verdict::Refused(refusal) => refusal_text::put_refusal(out, refusal),
+    match reported.verdict {
+        Ok(()) => report_text::put_report(out, reported.report),
+        Err(refusal) => refusal_text::put_refusal(out, refusal),
     }
 }
 
 // Answers a text. The output is lent: its first bytes become the answer, the others stay; 10 where it is too short, and then no byte
 // changes.
-pub fn answer_period(text: &[u8], out: &mut [u8]) -> Wrote
+pub fn answer_period(text: &[u8], out: &mut [u8]) -> Result<usize, Refusal>
     ensures result_value { answer result ≡ period_writes text.now (length out.old) }
     ensures out_after { out.new ≡ period_leaves text.now out.old }
     ensures text_len_bound { length (period_text text.now) ≤ report_bytes }

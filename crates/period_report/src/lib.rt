@@ -10,7 +10,9 @@ ghost use Rattle.period_report.specs.Report.{counters, mean, tally_of, with_mean
 ghost use Rattle.day_figures.specs.Laws.{Within, Small};
 ghost use Rattle.period_report.specs.Laws.{plus, added, sum_limit, Light};
 
-use day_figures::{DayAnswer, Figures};
+use day::Refusal;
+use day_figures::Figures;
+use refusals::Numbered;
 
 // The figures so far: the days by the numbers of their answers, at 0 those planned and at k those refused under k; and the totals of those
 // planned.
@@ -85,27 +87,20 @@ fn add_figures(a: Figures, b: Figures) -> Figures
 }
 
 // The tally with one day more: a planned day's figures are added, and a refused one is counted under its number.
-pub fn add_day(tally: Tally, day: DayAnswer) -> Tally
+pub fn add_day(tally: Tally, day: Result<Figures, Refusal>) -> Tally
     requires { Light tally × Small sum_limit (answer day) }
     ensures { result ≡ added tally (answer day) }
 {
-    let days = tally.days;
-    let totals = tally.totals;
     match day {
-        DayAnswer::Planned(figures) => {
-            let more = count_day(days, 0);
-            let sums = add_figures(totals, figures);
+        Ok(figures) => Tally {
+            days: count_day(tally.days, 0),
+            totals: add_figures(tally.totals, figures),
+        },
+        Err(refusal) => {
+            let told = Numbered::from(refusal);
             Tally {
-                days: more,
-                totals: sums,
-            }
-        }
-        DayAnswer::Refused(refusal) => {
-            let told = refusals::in_numbers(refusal);
-            let more = count_day(days, told.number);
-            Tally {
-                days: more,
-                totals: totals,
+                days: count_day(tally.days, told.number),
+                totals: tally.totals,
             }
         }
     }
@@ -136,7 +131,7 @@ pub fn with_means(tally: Tally) -> Report
     let planned = tally.days[0];
     Report {
         days: tally.days,
-        totals: totals,
+        totals,
         means: Means {
             revisits: mean_of(totals.revisits, planned),
             splits: mean_of(totals.splits, planned),

@@ -1,5 +1,5 @@
--- The row read back from the words of the first plan: train i has the last slot whose word lacks it; that is its slot (`slot_is`), and so the row is
--- the search's (`row-found`).
+-- The row read back from the first plan that is held: train i has the last slot in which it is not unserved; that is its slot (`slot_is`), and so
+-- the row is the search's (`row-found`).
 -- Assumes nothing.
 use Rattle.std.specs.Prelude.{◌≡◌, refl, Bool, true, false, ◌≢◌, eqb, length, take}
 use Rattle.std.proofs.Math.Path.{sym, ap}
@@ -26,32 +26,33 @@ use Rattle.beam.specs.Words.{word_of}
 use Rattle.beam.specs.HeldWords.{held_word}
 use Rattle.beam.specs.Gathering.{from}
 use Rattle.beam.proofs.Gathering.{at_place}
+use Rattle.held_plans.specs.declared.HeldPlan.{HeldPlan}
+use Rattle.held_plans.specs.Words.{slot_word}
 use Rattle.gathering.specs.Gathering.{Words}
 use Rattle.set_serving.specs.Serving.{PlanAt}
 
--- the last of the first t slots whose word lacks train i, or 0
-unfoldable pub slot_at : List ℕ → ℕ → ℕ → ℕ
+-- the last of the first t slots whose set of those unserved lacks train i, or 0
+unfoldable pub slot_at : HeldPlan → ℕ → ℕ → ℕ
 slot_at w i zero = 0
-slot_at w i (suc j) = cond (has (get_or w (j + 3) 0) i) (slot_at w i j) (suc j)
+slot_at w i (suc j) = cond (has (get_or w.unserved j 0) i) (slot_at w i j) (suc j)
 
-pub slot_none : (w : List ℕ) (i : ℕ) → slot_at w i 0 ≡ 0
+pub slot_none : (w : HeldPlan) (i : ℕ) → slot_at w i 0 ≡ 0
 unfolding slot_at
 slot_none w i = refl
 
-pub slot_next : (w : List ℕ) (i j : ℕ) → slot_at w i (j + 1) ≡ cond (has (get_or w (j + 3) 0) i) (slot_at w i j) (j + 1)
+pub slot_next : (w : HeldPlan) (i j : ℕ) → slot_at w i (j + 1) ≡ cond (has (get_or w.unserved j 0) i) (slot_at w i j) (j + 1)
 unfolding slot_at
-slot_next w i j = ap (slot_at w i) (add-one j) ∙ ap (cond (has (get_or w (j + 3) 0) i) (slot_at w i j)) (sym (add-one j))
+slot_next w i j = ap (slot_at w i) (add-one j) ∙ ap (cond (has (get_or w.unserved j 0) i) (slot_at w i j)) (sym (add-one j))
 
-module _ (y : Yard) (p : Plan) (path : Path y p) (w : List ℕ) (own : Words y p w) (few : y.slots ≤ 12) (i : ℕ) (l : i < y.trains) where
+module _ (y : Yard) (p : Plan) (path : Path y p) (w : HeldPlan) (own : Words y p w) (few : y.slots ≤ 12) (i : ℕ) (l : i < y.trains) where
   -- the word of slot j + 1 lacks the trains of its set
-  slot-word : (j : ℕ) → j < y.slots → get_or w (j + 3) 0 ≡ full y.trains - set_in p j
+  slot-word : (j : ℕ) → j < y.slots → get_or w.unserved j 0 ≡ full y.trains - set_in p j
   unfolding held_word word_of
   slot-word j m =
-      let place : j + 3 ≡ suc (suc (suc j)) = omega arith in
-      ap (λ k. get_or w k 0) place ∙ own (suc (suc (suc j))) (omega arith)
+      sym (slot_word w j (omega arith)) ∙ own (suc (suc (suc j))) (omega arith)
       ∙ ap (λ b. cond b (rest y p) (full y.trains - set_in p j)) (ne_eqb (suc (suc (suc j))) 15 (λ e. omega arith))
 
-  lacks : (j : ℕ) → j < y.slots → has (get_or w (j + 3) 0) i ≡ not (eqb (slot_in p i) (suc j))
+  lacks : (j : ℕ) → j < y.slots → has (get_or w.unserved j 0) i ≡ not (eqb (slot_in p i) (suc j))
   lacks j m =
       ap (λ v. has v i) (slot-word j m)
       ∙ other (has (full y.trains - set_in p j) i) (has (set_in p j) i)
@@ -71,7 +72,7 @@ module _ (y : Yard) (p : Plan) (path : Path y p) (w : List ℕ) (own : Words y p
   slot_upto (suc t) h = go (slot_upto t (omega arith))
     where
       go : (slot_in p i ≤ t → slot_at w i t ≡ slot_in p i) × (t < slot_in p i → slot_at w i t ≡ 0)
-          → (slot_in p i ≤ suc t → cond (has (get_or w (t + 3) 0) i) (slot_at w i t) (suc t) ≡ slot_in p i) × (suc t < slot_in p i → cond (has (get_or w (t + 3) 0) i) (slot_at w i t) (suc t) ≡ 0)
+          → (slot_in p i ≤ suc t → cond (has (get_or w.unserved t 0) i) (slot_at w i t) (suc t) ≡ slot_in p i) × (suc t < slot_in p i → cond (has (get_or w.unserved t 0) i) (slot_at w i t) (suc t) ≡ 0)
       go before =
           ⊎_elim
           (λ (e : slot_in p i ≡ suc t).
@@ -101,7 +102,7 @@ module _ (y : Yard) (width : ℕ) where
   abbrev p : Plan
   p = from y width y.slots 0
 
-  pub row-found : (w row : List ℕ) → y.slots ≤ 12 → PlanAt y width y.slots 0 w → y.trains ≤ length row
+  pub row-found : (w : HeldPlan) (row : List ℕ) → y.slots ≤ 12 → PlanAt y width y.slots 0 w → y.trains ≤ length row
       → ((i : ℕ) → i < y.trains → at row i ≡ slot_at w i y.slots) → beam_row y width ≡ some (take y.trains row)
   unfolding beam_row row_of
   row-found w row few plan long is =

@@ -3,21 +3,21 @@
 //
 // Proved: for every record, every row and every output `write_plan` answers and leaves what `plan_writes` and `plan_leaves` of
 // specs/PlanText.antt say of valuing's checks and of the plan's text, which has at most `plan_bytes` bytes (specs/Size.antt). The
-// functions below it take slices, so that records of other sizes use them too. Assumes nothing.
+// functions below it take a lent day or slices, so that records of other sizes use them too. Assumes nothing.
 #![tactic(auto)]
 
-ghost use Rattle.std.specs.Prelude.{◌≡◌, ◌+◌, ◌≤◌, length};
-ghost use Rattle.day.specs.Sound.{day_limits, yard};
+ghost use Rattle.std.specs.Prelude.{◌≡◌, ◌+◌, ◌≤◌, T, length};
+ghost use Rattle.model.specs.Model.{allowed};
+ghost use Rattle.day.specs.Parts.{part_yard, IsShaped};
+ghost use Rattle.day.specs.Sound.{day_limits, yard, sound};
 ghost use Rattle.decimal.specs.Place.{Put};
 ghost use Rattle.output.specs.Output.{answer};
 ghost use Rattle.counting.specs.Counting.{outcome_of};
-ghost use Rattle.planfile.specs.PlanText.{plan_lines, plan_writes, plan_leaves};
+ghost use Rattle.planfile.specs.PlanText.{plan_lines, plan_text, plan_writes, plan_leaves};
 ghost use Rattle.planfile.specs.Laws.{value_lines, slot_lines};
 
 use counting::Value;
-use day::Day;
-use output::Wrote;
-use valuing::Valued;
+use day::{Day, Parts, Refusal};
 
 // The greatest size of a plan file (specs/Size.antt).
 pub const PLAN_BYTES: usize = 161;
@@ -32,14 +32,13 @@ fn put_values(out: &mut [u8], value: Value) -> usize
     ensures { Put out.old out.new 0 result (value_lines (outcome_of value)) }
 {
     let next = output::put_bytes(out, 0, &VALUE_NAMES);
-    output::put_four(
-        out,
-        next,
+    let row = [
         value.revisits.count(),
         value.splits.count(),
         value.direct.count(),
         value.cost,
-    )
+    ];
+    output::put_row(out, next, &row)
 }
 
 // Puts the second section from a place on: its names line and the slots of n trains. Gives the place after it.
@@ -50,7 +49,7 @@ fn put_slots(out: &mut [u8], at: usize, numbers: &[u32], row: &[u8], n: usize) -
 {
     let mut next = output::put_bytes(out, at, &SLOT_NAMES);
     for i in 0..n {
-        next = output::put_two(out, next, day::wide32(numbers[i]), day::wide8(row[i]));
+        next = output::put_row(out, next, &[u64::from(numbers[i]), u64::from(row[i])]);
     }
     next
 }
@@ -65,19 +64,29 @@ pub fn put_plan(out: &mut [u8], numbers: &[u32], row: &[u8], n: usize, value: Va
     put_slots(out, next, numbers, row, n)
 }
 
-// Writes the plan of a row. The output is lent: its first bytes become the plan file, the others stay; a refusal changes none. So the
-// text is put into a buffer first, which holds that of every allowed row (specs/Size.antt).
-pub fn write_plan(day: Day, row: &[u8], out: &mut [u8]) -> Wrote
+// Writes the plan of a row of a lent day by way of a buffer that holds its text, so that its length is known before the output changes.
+pub fn write_plan_file(
+    p: &Parts,
+    row: &[u8],
+    buffer: &mut [u8],
+    out: &mut [u8],
+) -> Result<usize, Refusal>
+    requires shape { IsShaped p.now × (p.now.limits.trains ≤ 64) }
+    requires room { T (sound p.now.limits (part_yard p.now)) → T (allowed (part_yard p.now) row.now) → length (plan_text (part_yard p.now) row.now) ≤ length buffer.old }
+    ensures result_value { answer result ≡ plan_writes p.now.limits (part_yard p.now) row.now (length out.old) }
+    ensures out_after { out.new ≡ plan_leaves p.now.limits (part_yard p.now) row.now out.old }
+{
+    let value = valuing::value_file(p, row)?;
+    let count = put_plan(buffer, p.numbers, row, p.head.trains, value);
+    output::write_text(&buffer[..count], out)
+}
+
+// Writes the plan of a row. The output is lent: its first bytes become the plan file, the others stay; a refusal changes none. The buffer
+// holds the text of every allowed row (specs/Size.antt).
+pub fn write_plan(day: Day, row: &[u8], out: &mut [u8]) -> Result<usize, Refusal>
     ensures result_value { answer result ≡ plan_writes day_limits (yard day) row.now (length out.old) }
     ensures out_after { out.new ≡ plan_leaves day_limits (yard day) row.now out.old }
 {
-    match valuing::value_assignment(day, row) {
-        Valued::Refused(refusal) => Wrote::Refused(refusal),
-        Valued::Values(value) => {
-            let numbers = day.numbers;
-            let mut text = [0u8; PLAN_BYTES];
-            let count = put_plan(&mut text, &numbers, row, day.trains, value);
-            output::write_text(&text[..count], out)
-        }
-    }
+    let mut text = [0u8; PLAN_BYTES];
+    write_plan_file(&day.parts(), row, &mut text, out)
 }

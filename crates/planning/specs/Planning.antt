@@ -1,23 +1,22 @@
 -- What the planning call answers, for any record and any areas: the checks 8 and 10 of document 01, then the best plan, or 9 with the
 -- first overbooked interval, or 16 of document 02; and what it leaves in lent memory.
 -- Assumes nothing.
-use Rattle.std.specs.Prelude.{◌≡◌, Bool, cond, ◌&&◌, List, [], ◌∷◌, ◌++◌, ◌⊎◌, ℕ, ◌*◌, ◌^◌, leb, length, drop}
+use Rattle.std.specs.Prelude.{◌≡◌, Bool, cond, ◌&&◌, List, [], ◌∷◌, ◌++◌, ◌⊎◌, ℕ, ◌*◌, ◌^◌, leb, length, drop, Result}
 use Rattle.std.proofs.Math.Option.{Option, none, some}
 use Rattle.model.specs.Model.{Yard, Outcome, outcome, bound_inside}
 use Rattle.model.specs.BestOf.{best_of}
 use Rattle.model.specs.Overbooked.{Interval, first_overbooked}
 use Rattle.day.specs.Sound.{sound}
-use Rattle.day.specs.Answer.{Answer, gives, refuses, refusal, on_given, Check, must, checked}
+use Rattle.day.specs.Answer.{Answer, gives, refuses, answered, on_given, Check, must, checked}
 use Rattle.day.specs.declared.Limits.{Limits}
 use Rattle.counting.specs.Counting.{outcome_of}
-use Rattle.planning.specs.declared.Planned.{Planned}
-use Rattle.planning.specs.declared.Planned.TheVariants.{Plan, Refused}
+use Rattle.counting.specs.declared.Value.{Value}
+use Rattle.day.specs.declared.Refusal.{Refusal}
 
 -- ---- the code's answer in 01's numbers
 
-abbrev pub answer : Planned → Answer Outcome
-answer (Plan v) = gives (outcome_of v)
-answer (Refused r) = refusal r
+abbrev pub answer : Result Value Refusal → Answer Outcome
+answer = answered outcome_of
 
 -- ---- the words that planning needs of the two areas: 2^n of cost, T × 2^n of choice
 

@@ -14,12 +14,6 @@ use counting::Value;
 use day::{Day, Refusal};
 use feasibility::Overbooked;
 
-#[derive(Clone, Copy)]
-pub enum Planned {
-    Plan(Value),
-    Refused(Refusal),
-}
-
 // The number of sets of n trains.
 fn count_sets(n: usize) -> usize
     requires { n ≤ 12 }
@@ -51,47 +45,51 @@ fn plan_sound(
     choice: &mut [u16],
     row: &mut [u8],
     size: usize,
-) -> Planned
+) -> Result<Value, Refusal>
     requires { T (sound day_limits (yard day)) × ((size ≡ 2 ^ day.trains) × ((size ≤ length cost.old) × ((day.slots * size ≤ length choice.old) × (day.trains ≤ length row.old)))) }
     ensures { Decided (yard day) size cost.old choice.old row.old (answer result) cost.new choice.new row.new }
 {
-    let first = day.first;
-    let last = day.last;
-    let boxes = day.boxes;
     let n = day.trains;
-    let found = feasibility::first_overbooked(&first, &last, n, day.tracks, day.slots);
-    if let Overbooked::Interval {
-        first: a,
-        last: b,
-        trains: k,
-    } = found
+    let found = feasibility::first_overbooked(&day.first, &day.last, n, day.tracks, day.slots);
+    if let Some(
+        Overbooked {
+            first,
+            last,
+            trains,
+        },
+    ) = found
     {
-        return Planned::Refused(Refusal::Overbooked {
-            first: a,
-            last: b,
-            trains: k,
+        return Err(Refusal::Overbooked {
+            first,
+            last,
+            trains,
         });
     }
     if !placing::place_trains(day, cost, choice, row, size) {
-        return Planned::Refused(Refusal::NoAllowedRow);
+        return Err(Refusal::NoAllowedRow);
     }
-    Planned::Plan(counting::value_slots(&boxes, 12, &row[..n], n, day.revisit, day.split))
+    Ok(counting::value_slots(&day.boxes, 12, &row[..n], n, day.revisit, day.split))
 }
 
 // Plans a day. `cost` needs 2^n words, `choice` T × 2^n words, `row` n bytes: else 10.
-pub fn plan(day: Day, cost: &mut [u64], choice: &mut [u16], row: &mut [u8]) -> Planned
+pub fn plan(
+    day: Day,
+    cost: &mut [u64],
+    choice: &mut [u16],
+    row: &mut [u8],
+) -> Result<Value, Refusal>
     ensures result_value { answer result ≡ planned day_limits (yard day) (length cost.old) (length choice.old) (length row.old) }
     ensures row_after { row.new ≡ row_after day_limits (yard day) (length cost.old) (length choice.old) row.old }
     ensures stays { Stays (open_words (begins day_limits (yard day) (length cost.old) (length choice.old) (length row.old)) (cost_words (yard day))) cost.old cost.new }
     ensures stays_2 { Stays (open_words (begins day_limits (yard day) (length cost.old) (length choice.old) (length row.old)) (choice_words (yard day))) choice.old choice.new }
 {
     if !day_sound::is_sound(day) {
-        return Planned::Refused(Refusal::Unsound);
+        return Err(Refusal::Unsound);
     }
     let n = day.trains;
     let size = count_sets(n);
     if !are_enough(n, day.slots, size, cost.len(), choice.len(), row.len()) {
-        return Planned::Refused(Refusal::TooShort);
+        return Err(Refusal::TooShort);
     }
     plan_sound(day, cost, choice, row, size)
 }

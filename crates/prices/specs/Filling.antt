@@ -1,19 +1,35 @@
 -- The loops that fill the table of split moves, by the laws of Splits.antt, and the one that prices it.
 -- Assumes nothing.
-use Rattle.std.specs.Prelude.{◌≡◌, List, ℕ, suc, ◌+◌, ◌^◌, ◌≤◌, ◌<◌, length, set}
-use Rattle.std.proofs.Common.{sym, ap, ◌∙◌, subst, pow-suc, arith, pow_mono}
+use Rattle.std.specs.Prelude.{◌≡◌, List, ℕ, suc, ◌+◌, ◌-◌, ◌*◌, ◌^◌, ◌≤◌, ◌<◌, length, set}
+use Rattle.std.proofs.Common.{sym, ap, ◌∙◌, ⊎_elim, pow-suc, arith, pow_mono}
+use Rattle.fold.specs.Counting.{le_or_lt}
 use Rattle.optimum.specs.Workspace.{at}
 use Rattle.optimum.proofs.Workspace.{kept_then}
 use Rattle.staging.specs.Tables.{from_outside}
 use Rattle.prices.specs.Entries.{with_pair, price_of, split_cost}
 use Rattle.tables.specs.Filled.{Filled, Added, filled_none, filled_next, filled_end, added-filled}
-use Rattle.prices.specs.Splits.{split_empty, split_pair, split_most}
+use Rattle.tables.specs.Doubled.{two_sets}
+use Rattle.prices.specs.Splits.{split_empty, split_pair, split_grows}
 
--- ---- what stands in the table is bounded
+-- ---- what stands in the table is bounded: a train receives at most 255 boxes from each of 12
 
-split_word : (n : ℕ) (a : ℕ → ℕ → ℕ) → n ≤ 12 → ((i j : ℕ) → a i j ≤ 255) → {N : ℕ} {b₀ b : List ℕ} → Filled (from_outside n a) N b₀ b
-    → (s : ℕ) → s < N → at b s ≤ 36720
-split_word n a few byte h s l = subst (λ x. x ≤ 36720) (sym (h.all s l)) (split_most n a s few byte)
+-- the split moves of the sets of the first k trains
+abbrev pub Bounded : ℕ → (ℕ → ℕ → ℕ) → ℕ → Type 0
+Bounded n a k = (s : ℕ) → s < 2 ^ k → from_outside n a s ≤ 3060 * k
+
+pub bounded_none : (n : ℕ) (a : ℕ → ℕ → ℕ) → Bounded n a 0
+bounded_none n a s l =
+    let e : s ≡ 0 = omega arith in
+    omega (arith, ap (from_outside n a) e, split_empty n a)
+
+pub bounded_next : (n : ℕ) (a : ℕ → ℕ → ℕ) (k : ℕ) → Bounded n a k → k < n → from_outside n a (2 ^ k) ≤ 3060 → Bounded n a (k + 1)
+bounded_next n a k h l one s q =
+    ⊎_elim
+    (λ (z : 2 ^ k ≤ s).
+    let e : 2 ^ k + (s - 2 ^ k) ≡ s = omega arith in
+    let rest : s - 2 ^ k < 2 ^ k = omega (arith, two_sets k) in
+    omega (arith, ap (from_outside n a) e, split_grows n a k l (s - 2 ^ k) rest, h (s - 2 ^ k) rest))
+    (λ (z : s < 2 ^ k). omega (arith, h s z)) (le_or_lt (2 ^ k) s)
 
 -- ---- the loops that fill the table
 
@@ -49,14 +65,14 @@ module _ (n : ℕ) (a : ℕ → ℕ → ℕ) {c₀ c : List ℕ} (size below : �
         h.all (size + m) (omega arith),
       )
 
-  pub pair_joinable : (pair : ℕ) → pair ≡ a k b + a b k → n ≤ 12 → ((i j : ℕ) → a i j ≤ 255) → size + size ≤ length c → Joinable size below pair c
-  pair_joinable pair p few byte room =
+  pub pair_joinable : (pair : ℕ) → pair ≡ a k b + a b k → n ≤ 12 → Bounded n a (k + 1) → size + size ≤ length c → Joinable size below pair c
+  pair_joinable pair p few bound room =
       let both : below + below ≤ size = omega (arith, pow-suc 2 b, pow_mono {i = suc b} {j = k} q) in
       record {
         few = omega (arith, pow_mono {i = k} {j = 12} (omega arith));
         apart = omega arith;
         room = omega arith;
-        small = split_word n a few byte h;
+        small = λ x r. omega (arith, h.all x r, bound x (omega (arith, two_sets k)));
         less = λ m r. omega (arith, pair-at m r);
       }
 

@@ -10,7 +10,7 @@ use Rattle.std.proofs.Math.Nat.{add-zero}
 use native.Mathlib.Omega.{arith}
 use Rattle.std.proofs.Math.Pow.{high}
 use Rattle.fold.specs.Fold.{sum}
-use Rattle.fold.specs.Sums.{sum_ext, sum-add, sum_only, sum_zero, sum_bound}
+use Rattle.fold.specs.Sums.{sum_ext, sum-add, sum_only, sum_zero, sum_le, sum_bound}
 use Rattle.fold.specs.Counting.{same_or}
 use Rattle.sets.specs.Mask.{has}
 use Rattle.sets.specs.Rest.{has_none}
@@ -164,6 +164,24 @@ module _ (n : ℕ) (a : ℕ → ℕ → ℕ) (k : ℕ) (l : k < n) where
         outside_join n a k (2 ^ b + m) l both k,
         outside_join n a k m l less k,
         outside_join n a b m (omega arith) h k,
+      )
+
+  -- with train k a set has no more split moves than without it and train k alone together
+  pub split_grows : (m : ℕ) → m < 2 ^ k → from_outside n a (2 ^ k + m) ≤ from_outside n a m + from_outside n a (2 ^ k)
+  unfolding outside_to outside_boxes inside_from
+  split_grows m h =
+      let fewer : outside_to n a m k ≤ outside_to n a 0 k =
+      sum_le n (outside_boxes a m k) (outside_boxes a 0 k)
+      (λ j q. cond_le (has m j) 0 (a k j) (cond (has 0 j) 0 (a k j)) (omega arith) (let e = ap (λ c. cond c 0 (a k j)) (has_none j) in omega (arith, e))) in
+      let none : inside_from n a 0 k ≡ 0 = sum_zero n (λ i. cond (has 0 i) (a i k) 0) (λ i q. ap (λ c. cond c (a i k) 0) (has_none i)) in
+      let one = ap (from_outside n a) (add-zero (2 ^ k)) in
+      omega (
+        arith,
+        split_join n a k m l h,
+        outside_join n a k m l h k,
+        split_join n a k 0 l (pow_pos k),
+        outside_join n a k 0 l (pow_pos k) k,
+        split_empty n a,
       )
 
 -- where each train receives at most 255 boxes from each of 12

@@ -6,33 +6,34 @@
 #![tactic(auto)]
 
 ghost use Rattle.std.specs.Prelude.{◌≡◌, ℕ, ◌+◌, ◌*◌, ◌^◌, ◌≤◌, ◌<◌, length};
-ghost use Rattle.model.specs.Model.{cell};
 ghost use Rattle.model.specs.Cells.{InTable};
 ghost use Rattle.optimum.specs.Workspace.{at};
 ghost use Rattle.staging.specs.Tables.{from_outside};
-ghost use Rattle.tables.specs.Given.{Given};
+ghost use Rattle.tables.specs.Given.{Given, boxes_of};
 ghost use Rattle.tables.specs.Filled.{Filled, Added};
 ghost use Rattle.prices.specs.Entries.{with_pair, price_of, split_cost};
-ghost use Rattle.prices.specs.Filling.{Joinable};
+ghost use Rattle.prices.specs.Filling.{Joinable, Bounded};
+
+use tables::Supplies;
 
 // The boxes that train k receives from other trains: the split moves of the set of k alone.
-fn received_by(boxes: &[u8], width: usize, n: usize, k: usize) -> u32
-    requires { Given n width boxes.now × (k < n) }
-    ensures { result ≡ from_outside n (cell width boxes.now) (2 ^ k) }
+fn received_by(supplies: &Supplies, k: usize) -> u32
+    requires { Given supplies.now × (k < supplies.now.trains) }
+    ensures { (result ≡ from_outside supplies.now.trains (boxes_of supplies.now) (2 ^ k)) × (result ≤ 3060) }
 {
     let mut total: u32 = 0;
-    for j in 0..n {
-        total += day::cell_at(boxes, width, k, j) as u32;
+    for j in 0..supplies.trains {
+        total += u32::from(supplies.received(k, j));
     }
-    total - day::cell_at(boxes, width, k, k) as u32
+    total - u32::from(supplies.received(k, k))
 }
 
 // The boxes that the trains k and b receive from each other.
-fn between(boxes: &[u8], width: usize, k: usize, b: usize) -> u32
-    requires { InTable width boxes.now k b × InTable width boxes.now b k }
-    ensures { result ≡ cell width boxes.now k b + cell width boxes.now b k }
+fn between(supplies: &Supplies, k: usize, b: usize) -> u32
+    requires { InTable supplies.now.width supplies.now.boxes.now k b × InTable supplies.now.width supplies.now.boxes.now b k }
+    ensures { result ≡ boxes_of supplies.now k b + boxes_of supplies.now b k }
 {
-    day::cell_at(boxes, width, k, b) as u32 + day::cell_at(boxes, width, b, k) as u32
+    u32::from(supplies.received(k, b)) + u32::from(supplies.received(b, k))
 }
 
 // To the split moves of the sets with train k, the one of `size`, and no others but trains before b, the one of `below`, adds those of
@@ -47,30 +48,26 @@ fn join_pair(price: &mut [u32], size: usize, below: usize, pair: u32)
     }
 }
 
-// To the split moves of the sets below `size`, those of the trains before k, adds the split moves of the same sets with train k: of k
-// alone, then with each train before it.
-fn add_train(price: &mut [u32], boxes: &[u8], width: usize, n: usize, k: usize, size: usize)
-    requires { Given n width boxes.now × (k < n) × (size ≡ 2 ^ k) × (size + size ≤ length price.old) × Filled (from_outside n (cell width boxes.now)) size price.old price.old }
-    ensures { Filled (from_outside n (cell width boxes.now)) (size + size) price.old price.new }
+// To the split moves of the sets of the trains before k adds those of the same sets with train k: of k alone, then with each train before it.
+fn add_train(price: &mut [u32], supplies: &Supplies, k: usize)
+    requires { Given supplies.now × (k < supplies.now.trains) × (2 ^ (k + 1) ≤ length price.old) × Filled (from_outside supplies.now.trains (boxes_of supplies.now)) (2 ^ k) price.old price.old × Bounded supplies.now.trains (boxes_of supplies.now) k }
+    ensures { Filled (from_outside supplies.now.trains (boxes_of supplies.now)) (2 ^ (k + 1)) price.old price.new × Bounded supplies.now.trains (boxes_of supplies.now) (k + 1) }
 {
-    price[size] = received_by(boxes, width, n, k);
-    let mut below = 1;
+    let size = 1usize << k;
+    price[size] = received_by(supplies, k);
     for b in 0..k {
-        join_pair(price, size, below, between(boxes, width, k, b));
-        below += below;
+        join_pair(price, size, 1usize << b, between(supplies, k, b));
     }
 }
 
-// The split moves of each set of the n trains.
-fn fill_outside(price: &mut [u32], boxes: &[u8], width: usize, n: usize)
-    requires { Given n width boxes.now × (2 ^ n ≤ length price.old) }
-    ensures { Filled (from_outside n (cell width boxes.now)) (2 ^ n) price.old price.new }
+// The split moves of each set of the trains.
+fn fill_outside(price: &mut [u32], supplies: &Supplies)
+    requires { Given supplies.now × (2 ^ supplies.now.trains ≤ length price.old) }
+    ensures { Filled (from_outside supplies.now.trains (boxes_of supplies.now)) (2 ^ supplies.now.trains) price.old price.new }
 {
     price[0] = 0;
-    let mut size = 1;
-    for k in 0..n {
-        add_train(price, boxes, width, n, k, size);
-        size += size;
+    for k in 0..supplies.trains {
+        add_train(price, supplies, k);
     }
 }
 
@@ -90,23 +87,15 @@ fn set_prices(price: &mut [u32], size: usize, tracks: u32, split: u32)
     requires { (size ≤ 4096) × (size ≤ length price.old) × ((s : ℕ) → s < size → split * at price.old s < 2 ^ 32) }
     ensures { Filled (λ s. price_of tracks split s (at price.old s)) size price.old price.new }
 {
-    for s in 0..size {
-        price[s] = price_of(price[s], s, tracks, split);
+    for (s, word) in price[..size].iter_mut().enumerate() {
+        *word = price_of(*word, s, tracks, split);
     }
 }
 
-pub fn fill_price(
-    price: &mut [u32],
-    boxes: &[u8],
-    width: usize,
-    n: usize,
-    size: usize,
-    tracks: u32,
-    split: u32,
-)
-    requires { Given n width boxes.now × (size ≡ 2 ^ n) × (size ≤ length price.old) × ((s : ℕ) → s < size → split * from_outside n (cell width boxes.now) s < 2 ^ 32) }
-    ensures { Filled (split_cost n (cell width boxes.now) tracks split) size price.old price.new }
+pub fn fill_price(price: &mut [u32], supplies: &Supplies, size: usize, tracks: u32, split: u32)
+    requires { Given supplies.now × (size ≡ 2 ^ supplies.now.trains) × (size ≤ length price.old) × ((s : ℕ) → s < size → split * from_outside supplies.now.trains (boxes_of supplies.now) s < 2 ^ 32) }
+    ensures { Filled (split_cost supplies.now.trains (boxes_of supplies.now) tracks split) size price.old price.new }
 {
-    fill_outside(price, boxes, width, n);
+    fill_outside(price, supplies);
     set_prices(price, size, tracks, split);
 }

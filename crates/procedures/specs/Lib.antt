@@ -1,4 +1,5 @@
 pub mod Procedures
+pub mod Lent
 pub mod Underway
 pub mod Complete
 pub mod Laws

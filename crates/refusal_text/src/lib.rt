@@ -10,6 +10,7 @@ ghost use Rattle.refusal_text.specs.RefusalText.{refusal_text};
 ghost use Rattle.refusal_text.specs.Laws.{refusal_bytes};
 
 use day::Refusal;
+use refusals::Numbered;
 
 const LINE_NAMES: [u8; 13] = *b"refusal line\n";
 
@@ -20,11 +21,11 @@ pub fn put_refusal(out: &mut [u8], refusal: Refusal) -> usize
     requires { refusal_bytes ≤ length out.old }
     ensures { Put out.old out.new 0 result (refusal_text (number refusal) (carried refusal)) × (result ≤ refusal_bytes) }
 {
-    let told = refusals::in_numbers(refusal);
+    let told = Numbered::from(refusal);
     if told.number == 9 {
         let next = output::put_bytes(out, 0, &INTERVAL_NAMES);
-        return output::put_four(out, next, 9, told.first, told.second, told.third);
+        return output::put_row(out, next, &[9, told.first, told.second, told.third]);
     }
     let next = output::put_bytes(out, 0, &LINE_NAMES);
-    output::put_two(out, next, told.number, told.first)
+    output::put_row(out, next, &[told.number, told.first])
 }

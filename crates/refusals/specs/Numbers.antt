@@ -1,12 +1,10 @@
 -- A refusal as the code tells it: its number and the values that it carries, 0 where there are fewer than three.
 -- Assumes nothing.
-use Rattle.std.specs.Prelude.{◌≡◌, refl, Bool, true, false, cond, List, [], ◌∷◌, ℕ, suc, ◌≤◌, eqb, get_or}
+use Rattle.std.specs.Prelude.{◌≡◌, refl, Bool, true, false, cond, List, [], ◌∷◌, ℕ, suc, ◌≤◌, eqb, get_or, Result, Ok, Err}
 use Rattle.std.proofs.Common.{ap, ◌∙◌, arith}
 use Rattle.day.specs.Answer.{number, carried, judged, code}
 use Rattle.refusals.specs.declared.Numbered.{Numbered}
 use Rattle.day.specs.declared.Refusal.{Refusal}
-use Rattle.day.specs.declared.Verdict.{Verdict}
-use Rattle.day.specs.declared.Verdict.TheVariants.{Accepted, Refused}
 use Rattle.day.specs.declared.Refusal.TheVariants.{NamesLine, RowForm, OutOfLimits, NumberOrder, WindowOrder, UnknownTrain, PairOrder, Unsound, Overbooked, TooShort, RowLength, OutsideWindow, SlotOverfull, WithoutSlot, GroupRow, NoAllowedRow, GroupParted, TrainUnavailable, TrainNotAddable, NoOpenSlot, WidthOutOfRange, TooManyDays, CalendarOutOfRange, NoWindow}
 
 pub record Tells (k : ℕ) (carries : List ℕ) (r : Numbered) : Type 0 where
@@ -82,11 +80,11 @@ number-most NoWindow = omega arith
 
 -- ---- the number of a verdict: that of its refusal, 0 where it is accepted
 
-abbrev pub verdict_number : Verdict → ℕ
-verdict_number Accepted = 0
-verdict_number (Refused r) = number r
+abbrev pub verdict_number : Result Unit Refusal → ℕ
+verdict_number (Ok u) = 0
+verdict_number (Err r) = number r
 
 -- so it is the number of the answer that the verdict makes, whatever stands beside it
-pub judged-number : {X : Type 0} (v : Verdict) (x : X) → verdict_number v ≡ code (judged v x)
-judged-number Accepted x = refl
-judged-number (Refused r) x = refl
+pub judged-number : {X : Type 0} (v : Result Unit Refusal) (x : X) → verdict_number v ≡ code (judged v x)
+judged-number (Ok u) x = refl
+judged-number (Err r) x = refl

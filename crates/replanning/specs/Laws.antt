@@ -6,7 +6,7 @@ use Rattle.std.proofs.Math.Path.{ap}
 use Rattle.fold.specs.Test.{of_true}
 use Rattle.fold.specs.Column.{column}
 use Rattle.model.specs.Model.{Yard, Outcome, slot_of}
-use Rattle.day.specs.Answer.{Answer, gives, refuses, on_given}
+use Rattle.day.specs.Answer.{gives, refuses, on_given}
 use Rattle.day.specs.Sound.{day_limits, sound}
 use Rattle.planning.specs.Planning.{areas_suffice, planned, row_after}
 use Rattle.rolling.specs.Rolling.{Account, state_of, cut, best_plan, begun_account, begun, begun_begins}
@@ -19,14 +19,14 @@ module _ (a : Account) (st : Standing day_limits a) (z : Yard) (is : z ≡ cut a
   same_day : planned day_limits z costs choices 12 ≡ planned day_limits (cut a) costs choices 12
   same_day = ap (λ y. planned day_limits y costs choices 12) is
 
-  pub replan_refused : {said : Answer Outcome} {k : ℕ} {carries : List ℕ} → said ≡ planned day_limits z costs choices 12 → said ≡ refuses k carries → refuses k carries ≡ plan_of_account a
-  replan_refused {said} {k} {carries} e r =
-      sym (ap (λ x. on_given x (λ plan. gives (state_of a plan))) (plan_refused (cut a) (cut-sound st) costs choices enough k carries (sym same_day ∙ sym e ∙ r)))
+  pub replan_refused : {k : ℕ} {carries : List ℕ} → refuses k carries ≡ planned day_limits z costs choices 12 → refuses k carries ≡ plan_of_account a
+  replan_refused {k} {carries} e =
+      sym (ap (λ x. on_given x (λ plan. gives (state_of a plan))) (plan_refused (cut a) (cut-sound st) costs choices enough k carries (sym same_day ∙ sym e)))
 
-  pub replan_taken : {said : Answer Outcome} {o : Outcome} {row : List ℕ} → said ≡ planned day_limits z costs choices 12 → said ≡ gives o
+  pub replan_taken : {o : Outcome} {row : List ℕ} → gives o ≡ planned day_limits z costs choices 12
       → row ≡ row_after day_limits z costs choices (replicate 12 0) → gives (record { day = a.day; closed = a.closed; row = row }) ≡ plan_of_account a
-  replan_taken {said} {o} {row} e g r =
-      let p = plan_replanned (cut a) (cut-sound st) costs choices enough o (sym same_day ∙ sym e ∙ g) in
+  replan_taken {o} {row} e r =
+      let p = plan_replanned (cut a) (cut-sound st) costs choices enough o (sym same_day ∙ sym e) in
       let wide : 12 ≡ a.day.width = sym st.is_sound.limits.shape.width in
       let q : row ≡ column a.day.width a.day.trains (slot_of p.plan) =
       r ∙ ap (λ y. row_after day_limits y costs choices (replicate 12 0)) is ∙ p.row ∙ ap (λ w. column w a.day.trains (slot_of p.plan)) wide in

@@ -12,37 +12,52 @@ ghost use Rattle.rolling.specs.Rolling.{begun, begun_begins, or_before};
 ghost use Rattle.rolling.specs.Cut.{Standing};
 ghost use Rattle.rolling_state.specs.States.{state_in, answer, zero_state};
 ghost use Rattle.account_edits.specs.Accounts.{account_in};
-ghost use Rattle.replanning.specs.Replans.{plan_of_account, Done};
+ghost use Rattle.replanning.specs.Replans.{plan_of_account, Made};
 
 use account_edits::Account;
 use day::{Day, Refusal};
-use planning::Planned;
 use rolling_state::{Rolled, RollingState};
 
-// The state of the best plan that keeps served trains in their slots and puts all others into open ones; where there is none, 9 or 16 and the
-// state before.
+// The state of the best plan that keeps served trains in their slots and puts all others into open ones; where there is none, 9 or 16.
+// Stays: `cost` and `choice` are two parameters here and in the calls above, as planning's `plan` takes them; a struct of two `&mut` would be
+// taken apart again at once.
 pub fn replan(
-    before: RollingState,
     account: Account,
     cost: &mut [u64],
     choice: &mut [u16],
-) -> Rolled
+) -> Result<RollingState, Refusal>
     requires { Standing day_limits (account_in account) × T (areas_suffice (length cost.old) (length choice.old)) }
-    ensures { Done (state_in before) (plan_of_account (account_in account)) true cost.old choice.old result cost.new choice.new }
+    ensures { Made (plan_of_account (account_in account)) true cost.old choice.old result cost.new choice.new }
 {
-    let changed = account.day;
-    let served = account.served;
-    let left = day_cut::cut_day(changed, account.closed, served);
+    let left = day_cut::cut_day(account.day, account.closed, account.served);
     let mut row = [0u8; 12];
-    let said = planning::plan(left, cost, choice, &mut row);
-    if let Planned::Refused(why) = said {
-        return rolling_state::refused(before, why);
-    }
-    rolling_state::taken(RollingState {
-        day: changed,
+    planning::plan(left, cost, choice, &mut row)?;
+    Ok(RollingState {
+        day: account.day,
         closed: account.closed as u32,
-        row: row,
+        row,
     })
+}
+
+// The state of a day with every slot open. Checks 8, 10, then 9 or 16.
+fn begun_state(day: Day, cost: &mut [u64], choice: &mut [u16]) -> Result<RollingState, Refusal>
+    ensures { Made (begun day_limits (yard day) (length cost.old) (length choice.old)) (begun_begins day_limits (yard day) (length cost.old) (length choice.old)) cost.old choice.old result cost.new choice.new }
+{
+    if !day_sound::is_sound(day) {
+        return Err(Refusal::Unsound);
+    }
+    if !planning::are_areas_enough(cost.len(), choice.len()) {
+        return Err(Refusal::TooShort);
+    }
+    replan(
+        Account {
+            day,
+            closed: 0,
+            served: [0; 12],
+        },
+        cost,
+        choice,
+    )
 }
 
 // Begins a moving day: plans it with every slot open. `cost` needs 4,096 words and `choice` 32,768, whatever the day. Checks 8, 10, then 9
@@ -53,22 +68,5 @@ pub fn begin(day: Day, cost: &mut [u64], choice: &mut [u16]) -> Rolled
     ensures stays { Stays (open_words (begun_begins day_limits (yard day) (length cost.old) (length choice.old)) cost_area) cost.old cost.new }
     ensures stays_2 { Stays (open_words (begun_begins day_limits (yard day) (length cost.old) (length choice.old)) choice_area) choice.old choice.new }
 {
-    let zeros = rolling_state::zero_state();
-    if !day_sound::is_sound(day) {
-        return rolling_state::refused(zeros, Refusal::Unsound);
-    }
-    if !planning::are_areas_enough(cost.len(), choice.len()) {
-        return rolling_state::refused(zeros, Refusal::TooShort);
-    }
-    let none_served = [0u8; 12];
-    replan(
-        zeros,
-        Account {
-            day: day,
-            closed: 0,
-            served: none_served,
-        },
-        cost,
-        choice,
-    )
+    rolling_state::told(rolling_state::zero_state(), begun_state(day, cost, choice))
 }

@@ -49,7 +49,7 @@ fn put_days(out: &mut [u8], days: &[u64]) -> usize
 {
     let refused = refused_days(days);
     let next = output::put_bytes(out, 0, &DAY_NAMES);
-    output::put_three(out, next, days[0] + refused, days[0], refused)
+    output::put_row(out, next, &[days[0] + refused, days[0], refused])
 }
 
 // Puts the row of refusal i + 1 where a day was refused under it, and nothing where none was.
@@ -62,7 +62,7 @@ fn put_refused(out: &mut [u8], at: usize, days: &[u64], i: usize) -> usize
     if days[k] == 0 {
         return at;
     }
-    output::put_two(out, at, k as u64, days[k])
+    output::put_row(out, at, &[k as u64, days[k]])
 }
 
 // Puts the second section from a place on: its names line and a row for each number under which a day was refused. Gives the place after
@@ -84,7 +84,7 @@ fn put_figure(out: &mut [u8], at: usize, names: &[u8], total: u64, mean: Mean) -
     ensures { Put out.old out.new at result (figure_lines names.now total mean) }
 {
     let next = output::put_bytes(out, at, names);
-    output::put_three(out, next, total, mean.quotient, mean.remainder)
+    output::put_row(out, next, &[total, mean.quotient, mean.remainder])
 }
 
 // Puts the sections of the figures from a place on, and the savings after them; each place is named after what is put there. Gives the
@@ -98,7 +98,7 @@ fn put_figures(out: &mut [u8], at: usize, totals: Figures, means: Means) -> usiz
     let boxes = put_figure(out, direct, &DIRECT_NAMES, totals.direct, means.direct);
     let savings = put_figure(out, boxes, &BOX_NAMES, totals.boxes, means.boxes);
     let row = output::put_bytes(out, savings, &SAVING_NAMES);
-    output::put_one(out, row, totals.savings)
+    output::put_row(out, row, &[totals.savings])
 }
 
 // Puts the report at the front. Gives its length.

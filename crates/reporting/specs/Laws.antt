@@ -6,7 +6,7 @@ use Rattle.std.proofs.lemmas.List.{length-map}
 use Rattle.day.specs.Answer.{Answer, gives, refuses, judged}
 use Rattle.day.specs.Most.{most_cost, day_most-cost}
 use Rattle.day.specs.Sound.{day_limits}
-use Rattle.day.specs.declared.Verdict.TheVariants.{Accepted}
+use Rattle.std.specs.Prelude.{Ok}
 use Rattle.planning.specs.Planning.{areas_suffice}
 use Rattle.parting.specs.Parting.{days_from, days}
 use Rattle.parting.proofs.Laws.{days_are, days_none}
@@ -106,6 +106,6 @@ module _ (text : List ℕ) (costs choices : ℕ) {r : Reported} where
 
 pub says_report : (text : List ℕ) (costs choices : ℕ) {report : Report} → areas_suffice costs choices ≡ true → leb (length (days text)) most_days ≡ true
     → report ≡ report_of (answers day_limits text)
-    → Says (period_report day_limits text costs choices) record { verdict = Accepted; report = report } × (period_begins text costs choices ≡ true)
+    → Says (period_report day_limits text costs choices) record { verdict = Ok tt; report = report } × (period_begins text costs choices ≡ true)
 unfolding period_report
 says_report text costs choices e f r = (rw (e, f) (record { says = ap gives r; beside = r }), rw (e, f))

@@ -15,16 +15,17 @@ ghost use Rattle.period_report.specs.Report.{most_days, tally_of};
 ghost use Rattle.reporting.specs.Period.{answers, period_report, report_or_zero, period_begins};
 ghost use Rattle.reporting.specs.Laws.{Says};
 
-use day::{Refusal, Verdict};
+use day::Refusal;
 use period_report::{Report, Tally};
 
 // "one report over up to 366 day files"
 const MOST_DAYS: usize = 366;
 
 // A report, or the refusal beside a report of zeros.
+// Stays: a report beside its verdict, since the second clause of `report_period` promises the zeros.
 #[derive(Clone, Copy)]
 pub struct Reported {
-    pub verdict: Verdict,
+    pub verdict: Result<(), Refusal>,
     pub report: Report,
 }
 
@@ -54,7 +55,7 @@ fn refused(given: Refusal) -> Reported
     ensures { Says (refusal given) result }
 {
     Reported {
-        verdict: Verdict::Refused(given),
+        verdict: Err(given),
         report: period_report::with_means(period_report::no_tally()),
     }
 }
@@ -75,7 +76,7 @@ pub fn report_period(text: &[u8], cost: &mut [u64], choice: &mut [u16]) -> Repor
     }
     let tally = tally_days(text, &mut cost[..4096], &mut choice[..32768]);
     Reported {
-        verdict: Verdict::Accepted,
+        verdict: Ok(()),
         report: period_report::with_means(tally),
     }
 }

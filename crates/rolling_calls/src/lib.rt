@@ -11,10 +11,10 @@ ghost use Rattle.planning.specs.Planning.{cost_area, choice_area, open_words, St
 ghost use Rattle.rolling.specs.Rolling.{account_of, cancel as cancelling, add as adding, set_boxes, change as changing, state_sound, state_after, state_begins, or_before};
 ghost use Rattle.rolling_state.specs.States.{state_in, answer};
 ghost use Rattle.account_edits.specs.Accounts.{account_in, change_in};
-ghost use Rattle.replanning.specs.Replans.{Done};
+ghost use Rattle.replanning.specs.Replans.{Made, Done};
 
 use account_edits::{Account, Change};
-use day::{Refusal, Verdict};
+use day::Refusal;
 use rolling_state::{Rolled, RollingState};
 
 // The account of a sound state: a train is served when its planned slot is closed.
@@ -22,33 +22,43 @@ fn account_of(state: RollingState) -> Account
     requires { T (state_sound day_limits (state_in state)) }
     ensures { account_in result ≡ account_of (state_in state) }
 {
-    let d = state.day;
-    let row = state.row;
+    let day = state.day;
     let closed = state.closed as u8;
     Account {
-        day: d,
-        closed: closed,
-        served: day_cut::served_slots(&row, d.trains, closed),
+        day,
+        closed,
+        served: day_cut::served_slots(&state.row, day.trains, closed),
     }
+}
+
+// The state after any of the three changes. Checks 8, 10, then its own; then plans.
+fn changed_state(
+    state: RollingState,
+    change: Change,
+    cost: &mut [u64],
+    choice: &mut [u16],
+) -> Result<RollingState, Refusal>
+    ensures { Made (state_after day_limits (state_in state) (changing (change_in change) (length cost.old) (length choice.old))) (state_begins day_limits (state_in state) (changing (change_in change) (length cost.old) (length choice.old))) cost.old choice.old result cost.new choice.new }
+{
+    if !rolling_state::is_state_sound(state) {
+        return Err(Refusal::Unsound);
+    }
+    if !planning::are_areas_enough(cost.len(), choice.len()) {
+        return Err(Refusal::TooShort);
+    }
+    let account = account_edits::edited_account(account_of(state), change)?;
+    replanning::replan(account, cost, choice)
 }
 
 // Any of the three changes: checks 8, 10, then its own; then plans.
 pub fn change(state: RollingState, change: Change, cost: &mut [u64], choice: &mut [u16]) -> Rolled
     ensures { Done (state_in state) (state_after day_limits (state_in state) (changing (change_in change) (length cost.old) (length choice.old))) (state_begins day_limits (state_in state) (changing (change_in change) (length cost.old) (length choice.old))) cost.old choice.old result cost.new choice.new }
 {
-    if !rolling_state::is_state_sound(state) {
-        return rolling_state::refused(state, Refusal::Unsound);
-    }
-    if !planning::are_areas_enough(cost.len(), choice.len()) {
-        return rolling_state::refused(state, Refusal::TooShort);
-    }
-    let edited = account_edits::edited_account(account_of(state), change);
-    let verdict = edited.verdict;
-    if let Verdict::Refused(why) = verdict {
-        return rolling_state::refused(state, why);
-    }
-    replanning::replan(state, edited.account, cost, choice)
+    rolling_state::told(state, changed_state(state, change, cost, choice))
 }
+
+// ---- the three calls
+// Stays: each has its four clauses in full; contracts of the five calls may not change (TRUST names them).
 
 // Cancels the train of this number. Checks 8, 10, 3, 18; 9 and 16 never come: the plan without the train is still allowed.
 pub fn cancel(state: RollingState, number: u32, cost: &mut [u64], choice: &mut [u16]) -> Rolled
@@ -77,9 +87,9 @@ pub fn add(
     change(
         state,
         Change::Add {
-            number: number,
-            first: first,
-            last: last,
+            number,
+            first,
+            last,
         },
         cost,
         choice,
@@ -100,14 +110,5 @@ pub fn set_boxes(
     ensures stays { Stays (open_words (state_begins day_limits (state_in state) (changing (set_boxes to from boxes) (length cost.old) (length choice.old))) cost_area) cost.old cost.new }
     ensures stays_2 { Stays (open_words (state_begins day_limits (state_in state) (changing (set_boxes to from boxes) (length cost.old) (length choice.old))) choice_area) choice.old choice.new }
 {
-    change(
-        state,
-        Change::SetBoxes {
-            to: to,
-            from: from,
-            boxes: boxes,
-        },
-        cost,
-        choice,
-    )
+    change(state, Change::SetBoxes { to, from, boxes }, cost, choice)
 }

@@ -2,7 +2,7 @@
 -- Assumes nothing.
 use Rattle.std.proofs.Math.Path.{◌≡◌, refl}
 use Rattle.std.proofs.Common.{ap, sym, ◌∙◌, arith}
-use Rattle.std.specs.Prelude.{Bool, ◌&&◌, List, [], ◌∷◌, ℕ, ◌+◌, ◌≤◌, ◌<◌, T, length}
+use Rattle.std.specs.Prelude.{Bool, ◌&&◌, List, [], ◌∷◌, ℕ, ◌+◌, ◌≤◌, ◌<◌, T, length, Result, Ok, Err, is_ok, IsErrAnd}
 use Rattle.std.proofs.Math.Bool.{true, false}
 use Rattle.std.proofs.Math.Numerals.{add-one}
 use Rattle.std.proofs.Math.Dec.{leb, eqb}
@@ -10,15 +10,18 @@ use borrow.Author.Tests.{eq-eqb, le-ltb, lt-ltb}
 use Rattle.fold.specs.Test.{is_true, is_false, of_true}
 use Rattle.fold.specs.Fold.{each}
 use Rattle.model.specs.Model.{Outcome, allowed}
-use Rattle.day.specs.Answer.{Answer, gives, refuses}
+use Rattle.day.specs.Answer.{Answer, gives, refuses, refusal}
 use Rattle.day.specs.Sound.{day_limits, sound}
 use Rattle.day.specs.SoundLaws.{sound_is}
 use Rattle.day.specs.declared.Limits.{Limits}
-use Rattle.valuing.specs.Valuing.{valued}
+use Rattle.day.specs.declared.Refusal.{Refusal}
+use Rattle.counting.specs.declared.Value.{Value}
+use Rattle.valuing.specs.Valuing.{valued, answer as valuing}
 use Rattle.valuing.proofs.Laws.{valued-allowed, allowed-valued}
 use Rattle.rolling.specs.Rolling.{State, plan_of, close, state_sound, state_after, or_before}
 use Rattle.rolling.specs.States.{sound_state}
-use Rattle.rolling_state.specs.States.{state_in, answer, Says, zero_past}
+use Rattle.rolling_state.specs.States.{state_in, new_state, answer, Says, zero_past}
+use Rattle.rolling_state.specs.declared.RollingState.{RollingState}
 use Rattle.rolling_state.specs.declared.Rolled.{Rolled}
 
 module _ (l : Limits) (s : State) where
@@ -28,7 +31,7 @@ module _ (l : Limits) (s : State) where
   unfolding state_sound
   unsound_day e = rw e
 
-  pub not_allowed : {k : ℕ} {carries : List ℕ} → sound l s.day ≡ true → valued l s.day (plan_of s) ≡ refuses k carries → false ≡ state_sound l s
+  not_allowed : {k : ℕ} {carries : List ℕ} → sound l s.day ≡ true → valued l s.day (plan_of s) ≡ refuses k carries → false ≡ state_sound l s
   unfolding state_sound
   not_allowed {k} {carries} d e =
       let no : allowed s.day (plan_of s) ≡ false =
@@ -39,16 +42,22 @@ module _ (l : Limits) (s : State) where
       any true b = refl
       any false b = refl
 
-  pub rest_decides : {o : Outcome} → valued l s.day (plan_of s) ≡ gives o → length s.row ≡ l.trains
+  allowed_rest : {o : Outcome} → valued l s.day (plan_of s) ≡ gives o → length s.row ≡ l.trains
       → (leb s.closed s.day.slots && each l.trains (zero_past s.day.trains s.row)) ≡ state_sound l s
   unfolding state_sound
-  rest_decides {o} e long =
+  allowed_rest {o} e long =
       let (d, a, q) = allowed-valued l s.day (plan_of s) o e in
       rw (is_true (sound l s.day) d, eq-eqb (length s.row) l.trains long, is_true (allowed s.day (plan_of s)) a) (any (leb s.closed s.day.slots) (each l.trains (zero_past s.day.trains s.row)))
     where
       any : (a b : Bool) → (a && b) ≡ (a && true && true && b)
       any true b = refl
       any false b = refl
+
+  -- of a sound day, by what valuing its plan answers
+  pub rest_decides : (r : Result Value Refusal) → valuing r ≡ valued l s.day (plan_of s) → sound l s.day ≡ true → length s.row ≡ l.trains
+      → ((is_ok r && leb s.closed s.day.slots) && each l.trains (zero_past s.day.trains s.row)) ≡ state_sound l s
+  rest_decides (Ok v) e d long = allowed_rest (sym e) long
+  rest_decides (Err r) e d long = not_allowed d (sym e)
 
   -- ---- close
 
@@ -63,6 +72,11 @@ module _ (l : Limits) (s : State) where
   pub close_taken : state_sound l s ≡ true → s.closed < s.day.slots → gives (record { day = s.day; closed = s.closed + 1; row = s.row }) ≡ state_after l s close
   unfolding state_after
   close_taken e h = rw (e, lt-ltb s.closed s.day.slots h, add-one s.closed)
+
+-- the answer after a `?`, by the error that it passes on
+pub passed_on : (r : Result RollingState Refusal) (why : Refusal) → IsErrAnd r (λ e. e ≡ why) → new_state r ≡ refusal why
+passed_on (Err e) why h = rw h refl
+passed_on (Ok s) why h = absurd h
 
 -- what is left, by the answer itself
 pub left_by : {before : State} {a : Answer State} {r : Rolled} → Says before a r → state_in r.state ≡ or_before before (answer r)

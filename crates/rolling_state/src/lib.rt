@@ -7,13 +7,11 @@
 
 ghost use Rattle.std.specs.Prelude.{◌≡◌, ◌≤◌, length};
 ghost use Rattle.fold.specs.Fold.{each};
-ghost use Rattle.day.specs.Answer.{gives, refusal};
 ghost use Rattle.day.specs.Sound.{day_limits};
-ghost use Rattle.rolling.specs.Rolling.{State, close as closing, state_sound, state_after, or_before};
-ghost use Rattle.rolling_state.specs.States.{state_in, answer, zero_state, Says, zero_past};
+ghost use Rattle.rolling.specs.Rolling.{close as closing, state_sound, state_after, or_before};
+ghost use Rattle.rolling_state.specs.States.{state_in, new_state, answer, zero_state, Says, zero_past};
 
-use day::{Day, Refusal, Verdict};
-use valuing::Valued;
+use day::{Day, Refusal};
 
 // What a call is handed and gives back, by value. Slots past the day's trains are 0.
 #[derive(Clone, Copy)]
@@ -24,27 +22,27 @@ pub struct RollingState {
 }
 
 // The new state; or a refusal, and the state as it was given (of `begin`, which is given none, zeros).
+// Stays: a verdict beside a state, and no Result of a state: a refused call gives back the state as before (clauses `state_value` of `begin`,
+// `close`, `cancel`, `add` and `set_boxes`). Only `told` makes one.
 #[derive(Clone, Copy)]
 pub struct Rolled {
-    pub verdict: Verdict,
+    pub verdict: Result<(), Refusal>,
     pub state: RollingState,
 }
 
-pub fn refused(before: RollingState, why: Refusal) -> Rolled
-    ensures { Says (state_in before) (refusal why) result }
+// What a call gives back that was to make a new state of the one before.
+pub fn told(before: RollingState, new: Result<RollingState, Refusal>) -> Rolled
+    ensures { Says (state_in before) (new_state new) result }
 {
-    Rolled {
-        verdict: Verdict::Refused(why),
-        state: before,
-    }
-}
-
-pub fn taken(state: RollingState) -> Rolled
-    ensures { (before : State) → Says before (gives (state_in state)) result }
-{
-    Rolled {
-        verdict: Verdict::Accepted,
-        state: state,
+    match new {
+        Ok(state) => Rolled {
+            verdict: Ok(()),
+            state,
+        },
+        Err(why) => Rolled {
+            verdict: Err(why),
+            state: before,
+        },
     }
 }
 
@@ -63,12 +61,7 @@ fn is_zero_past(row: &[u8], n: usize) -> bool
     requires { 12 ≤ length row.now }
     ensures { result ≡ each 12 (zero_past n row.now) }
 {
-    for i in 0usize..12 {
-        if !((i < n) | (row[i] == 0)) {
-            return false;
-        }
-    }
-    true
+    (0..12).all(|i| (i < n) | (row[i] == 0))
 }
 
 // Whether a state can be gone on with: a sound day, no more closed slots than it has, an allowed plan, and 0 past it. Else the calls give 8.
@@ -76,15 +69,29 @@ pub fn is_state_sound(state: RollingState) -> bool
     ensures { result ≡ state_sound day_limits (state_in state) }
 {
     let d = state.day;
-    let row = state.row;
     if !day_sound::is_sound(d) {
         return false;
     }
     let n = d.trains;
-    if let Valued::Refused(_) = valuing::value_assignment(d, &row[..n]) {
-        return false;
+    valuing::value_assignment(d, &state.row[..n]).is_ok()
+        & (state.closed <= d.slots as u32)
+        & is_zero_past(&state.row, n)
+}
+
+// The state whose first open slot is closed. Checks 8, then 20.
+fn closed(state: RollingState) -> Result<RollingState, Refusal>
+    ensures { new_state result ≡ state_after day_limits (state_in state) closing }
+{
+    if !is_state_sound(state) {
+        return Err(Refusal::Unsound);
     }
-    (state.closed <= d.slots as u32) & is_zero_past(&row, n)
+    if state.day.slots as u32 <= state.closed {
+        return Err(Refusal::NoOpenSlot);
+    }
+    Ok(RollingState {
+        closed: state.closed + 1,
+        ..state
+    })
 }
 
 // Closes the first open slot: the trains planned in it are served, and the plan stays. Checks 8, then 20.
@@ -92,14 +99,5 @@ pub fn close(state: RollingState) -> Rolled
     ensures result_value { answer result ≡ state_after day_limits (state_in state) closing }
     ensures state_value { state_in result.state ≡ or_before (state_in state) (answer result) }
 {
-    if !is_state_sound(state) {
-        return refused(state, Refusal::Unsound);
-    }
-    let d = state.day;
-    if d.slots as u32 <= state.closed {
-        return refused(state, Refusal::NoOpenSlot);
-    }
-    let mut next = state;
-    next.closed = state.closed + 1;
-    taken(next)
+    told(state, closed(state))
 }

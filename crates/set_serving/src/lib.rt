@@ -5,93 +5,60 @@
 // slices, for up to 36 trains, 4 tracks and 12 slots. Assumes nothing.
 #![tactic(auto)]
 
-ghost use Rattle.std.specs.Prelude.{◌≡◌, true, false, ◌+◌, ◌-◌, ◌*◌, ◌≤◌, ◌<◌, length, get_or};
+ghost use Rattle.std.specs.Prelude.{◌≡◌, true, false, ◌+◌, ◌-◌, ◌≤◌, ◌<◌};
 ghost use Rattle.std.specs.Int.Count.{ones};
 ghost use Rattle.sets.specs.Subset.{Sub};
 ghost use Rattle.beam.specs.HeldWords.{held_before};
-ghost use Rattle.set_serving.specs.Serving.{DaySizes, SearchTables, Priced, PlanWords, PlanArray, ServesSet};
+ghost use Rattle.held_plans.specs.Words.{word, plan_at, words};
+ghost use Rattle.candidates.specs.Words.{LowPlan};
+ghost use Rattle.set_serving.specs.Serving.{SearchTables, Priced, PlanArray, IsFull, ServesSet};
 
-use candidates::{Price, Sizes};
-use offering::Held;
+use candidates::{DayTables, Price};
+use held_plans::{Held, HeldPlan};
 
 // Whether there is no room, one was dropped already, and a plan of this cost costs more than the last one held. Then it need not be tested:
 // it is held in no case, and the flag is set.
-fn is_dearer(next: &[u64], cost: u64, gathered: Held, width: usize) -> bool
-    requires { (gathered.count ≤ width) × (1 ≤ width) × (width ≤ 64) × (length next.now ≡ 1024) }
-    ensures { result ≡ true → (gathered.dropped ≡ true) × (gathered.count ≡ width) × (get_or next.now ((gathered.count - 1) * 16) 0 < cost) }
+fn is_dearer(next: &Held, cost: u64, width: usize) -> bool
+    requires { (next.now.count ≤ width) × (1 ≤ width) × (width ≤ 64) }
+    ensures { result ≡ true → IsFull next.now width × ((plan_at next.now.plans (next.now.count - 1)).cost < cost) }
 {
-    if gathered.dropped & (gathered.count == width) {
-        return next[(gathered.count - 1) * 16] < cost;
-    }
-    false
+    next.dropped && next.count == width && next.plans[next.count - 1].cost < cost
 }
 
-// The same where the plan of the words x costs as much and does not come before the last one held.
-fn comes_too_late(next: &[u64], x: &[u64], gathered: Held, width: usize, slots: usize) -> bool
-    requires { (gathered.count ≤ width) × (1 ≤ width) × (width ≤ 64) × (slots ≤ 12) × (length next.now ≡ 1024) × (16 ≤ length x.now) }
-    ensures { result ≡ true → (gathered.dropped ≡ true) × (gathered.count ≡ width) × (held_before slots x.now next.now (gathered.count - 1) ≡ false) }
+// The same where the plan x costs as much and does not come before the last one held.
+fn comes_too_late(next: &Held, x: &HeldPlan, width: usize, slots: usize) -> bool
+    requires { (next.now.count ≤ width) × (1 ≤ width) × (width ≤ 64) × (slots ≤ 12) }
+    ensures { result ≡ true → IsFull next.now width × (held_before slots (word x.now) (words next.now.plans) (next.now.count - 1) ≡ false) }
 {
-    if gathered.dropped & (gathered.count == width) {
-        return !held_plans::comes_before(x, next, (gathered.count - 1) * 16, slots + 3);
-    }
-    false
+    next.dropped
+        && next.count == width
+        && !held_plans::comes_before(x, &next.plans[next.count - 1], slots)
 }
 
 // The set s of the plan, in slot j + 1, at its price: offered, unless it comes too late or what it leaves is discarded.
-fn try_set(
-    next: &mut [u64],
-    plan: &[u64],
-    boxes: &[u8],
-    ends: &[u64],
-    sizes: Sizes,
-    j: usize,
-    s: u64,
-    price: Price,
-    gathered: Held,
-) -> Held
-    requires { DaySizes sizes ends.now × PlanWords sizes j plan.now × (j < sizes.slots) × Sub s (get_or plan.now 15 0) × (ones s ≤ sizes.tracks) × PlanArray sizes (j + 1) next.old gathered.count × Priced sizes boxes.now (get_or plan.now 15 0) s price }
-    ensures { PlanArray sizes (j + 1) next.new result.count × ServesSet sizes boxes.now ends.now plan.now j s next.old gathered.count gathered.dropped next.new result.count result.dropped }
+fn try_set(next: &mut Held, plan: &HeldPlan, day: &DayTables, j: usize, s: u64, price: Price)
+    requires { SearchTables day.now × LowPlan day.now.boxes.trains j plan.now × (j < day.now.sizes.slots) × Sub s plan.now.rest × (ones s ≤ day.now.sizes.tracks) × PlanArray day.now (j + 1) next.old × Priced day.now plan.now.rest s price }
+    ensures { PlanArray day.now (j + 1) next.new × ServesSet day.now plan.now j s next.old next.new }
 {
-    let x = candidates::with_set(plan, sizes, j, s, price);
-    if comes_too_late(next, &x, gathered, sizes.width, sizes.slots) {
-        return gathered;
+    let sizes = day.sizes;
+    let x = candidates::with_set(plan, day, j, s, price);
+    if comes_too_late(next, &x, sizes.width, sizes.slots) {
+        return;
     }
-    if set_costs::is_discarded(ends, plan[15] - s, j + 1, sizes.slots, sizes.tracks) {
-        // not one that remained: it sets no flag
-        return Held {
-            count: gathered.count,
-            dropped: gathered.dropped,
-        };
+    if set_costs::is_discarded(day.ends, plan.rest - s, j + 1, sizes.slots, sizes.tracks) {
+        return; // not one that remained: it sets no flag
     }
-    offering::offer(
-        next,
-        &x,
-        gathered.count,
-        gathered.dropped,
-        sizes.width,
-        sizes.slots,
-    )
+    offering::offer(next, &x, sizes.width, sizes.slots);
 }
 
 // The set s of the plan, in slot j + 1.
-pub fn serve_set(
-    next: &mut [u64],
-    plan: &[u64],
-    boxes: &[u8],
-    suppliers: &[u64],
-    incoming: &[u64],
-    ends: &[u64],
-    sizes: Sizes,
-    j: usize,
-    s: u64,
-    gathered: Held,
-) -> Held
-    requires { SearchTables sizes boxes.now suppliers.now incoming.now ends.now × PlanWords sizes j plan.now × (j < sizes.slots) × Sub s (get_or plan.now 15 0) × (ones s ≤ sizes.tracks) × PlanArray sizes (j + 1) next.old gathered.count }
-    ensures { PlanArray sizes (j + 1) next.new result.count × ServesSet sizes boxes.now ends.now plan.now j s next.old gathered.count gathered.dropped next.new result.count result.dropped }
+pub fn serve_set(next: &mut Held, plan: &HeldPlan, day: &DayTables, j: usize, s: u64)
+    requires { SearchTables day.now × LowPlan day.now.boxes.trains j plan.now × (j < day.now.sizes.slots) × Sub s plan.now.rest × (ones s ≤ day.now.sizes.tracks) × PlanArray day.now (j + 1) next.old }
+    ensures { PlanArray day.now (j + 1) next.new × ServesSet day.now plan.now j s next.old next.new }
 {
-    let price = candidates::price_of(boxes, suppliers, incoming, sizes, plan[15], s);
-    if is_dearer(next, plan[0] + price.cost, gathered, sizes.width) {
-        return gathered;
+    let price = candidates::price_of(day, plan.rest, s);
+    if is_dearer(next, plan.cost + price.cost, day.sizes.width) {
+        return;
     }
-    try_set(next, plan, boxes, ends, sizes, j, s, price, gathered)
+    try_set(next, plan, day, j, s, price);
 }

@@ -19,7 +19,8 @@ use Rattle.staging.proofs.Reachable.{reachable_next}
 use Rattle.cells.specs.declared.Pick.{Pick}
 use Rattle.cells.specs.Given.{Given, Rests}
 use Rattle.cells.specs.Laws.{serve_open, serve_priced, served_fits}
-use Rattle.slot_filling.specs.Given.{Room, Later}
+use Rattle.slot_filling.specs.declared.Sizes.{Sizes}
+use Rattle.slot_filling.specs.Given.{Room, Later, Fillable}
 
 module _ {size slots : ℕ} {x : Tables} (g : Given size slots x) where
   -- where no set that may be served has more trains than tracks, a choice from what can remain leaves what can remain
@@ -103,3 +104,12 @@ hopeless_cell {slots = slots} {tracks} {later} {x} j r g room h l in_size e =
 -- the value and the set of a pick, from the pick that it is
 pub same_pick : {p q : Pick} {v u : ℕ} → p ≡ q → (q.value ≡ v) × (q.set ≡ u) → (p.value ≡ v) × (p.set ≡ u)
 same_pick e h = (ap (λ x. x.value) e ∙ h.0, ap (λ x. x.set) e ∙ h.1)
+
+-- ---- slot after slot
+
+-- the areas are still as long
+pub fillable_still : {n : Sizes} {x : Tables} {a₀ c₀ a c : List ℕ} → Fillable n x a₀ c₀ → length a ≡ length a₀ → length c ≡ length c₀ → Fillable n x a c
+fillable_still h p q =
+    let costs = h.costs in
+    let choices = h.choices in
+    record { tables = h.tables; room = h.room; costs = omega arith; choices = omega arith }

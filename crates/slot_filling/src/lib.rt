@@ -6,100 +6,76 @@
 
 ghost use Rattle.std.specs.Prelude.{◌+◌, ◌-◌, ◌*◌, ◌≤◌, ◌<◌, length};
 ghost use Rattle.optimum.specs.Layers.{Every};
-ghost use Rattle.staging.specs.Tables.{tables_of};
-ghost use Rattle.staging.specs.Reachable.{Reachable};
+ghost use Rattle.cells.specs.Lent.{lent};
 ghost use Rattle.cells.specs.Given.{Given};
-ghost use Rattle.slot_filling.specs.Given.{Room, Later, SolvedFrom};
+ghost use Rattle.slot_filling.specs.Given.{Later, Fillable, SolvedFrom, SolvedTo};
 
-use cells::Pick;
+use cells::{Pick, SetTables};
+
+// How far a day's tables and the two areas reach, and how many trains a slot has room for: a set of trains for each number below `sets`.
+#[derive(Clone, Copy)]
+pub struct Sizes {
+    pub tracks: u32,
+    pub slots: usize,
+    pub sets: usize,
+}
 
 // The table and the choices of the last slot: one set for each that remains.
-pub fn fill_last(
-    cost: &mut [u64],
-    choice: &mut [u16],
-    need: &[u16],
-    late: &[u32],
-    price: &[u32],
-    count: &[u8],
-    opens: &[usize],
-    slots: usize,
-    size: usize,
-)
-    requires { Given size slots (tables_of need.now late.now price.now count.now opens.now) × (size ≤ length cost.old) × (slots * size ≤ length choice.old) }
-    ensures { SolvedFrom (tables_of need.now late.now price.now count.now opens.now) Every size slots (slots - 1) cost.old choice.old cost.new choice.new }
+pub fn fill_last(cost: &mut [u64], choice: &mut [u16], tables: &SetTables, sizes: Sizes)
+    requires { Given sizes.sets sizes.slots (lent tables.now) × (sizes.sets ≤ length cost.old) × (sizes.slots * sizes.sets ≤ length choice.old) }
+    ensures { SolvedFrom (lent tables.now) Every sizes.sets sizes.slots (sizes.slots - 1) cost.old choice.old cost.new choice.new }
 {
-    let j = slots - 1;
-    let mut r = size;
-    while 0 < r {
-        r -= 1;
-        let p = cells::whole(need, late, price, count, opens, j, r);
+    let j = sizes.slots - 1;
+    for r in (0..sizes.sets).rev() {
+        let p = cells::whole(tables, j, r);
         cost[r] = p.value;
-        choice[j * size + r] = p.set;
+        choice[j * sizes.sets + r] = p.set;
     }
 }
 
 // The table of slot j + 1 from that of the next slot, and its choices, set by set from the largest: a cell reads values of sets no larger
 // than its own, which are still the next slot's. No walk where r has more trains than the slots left have tracks for, or one outside
-// `later`, whose window has passed: r cannot be served. No cell where more trains are gone than the slots before have tracks for: r cannot
-// remain.
+// `later`, whose window has passed: r cannot be served. No cell where fewer trains are left than the slots before, all tracks taken, leave: r
+// cannot remain.
 pub fn fill_slot(
     cost: &mut [u64],
     choice: &mut [u16],
-    need: &[u16],
-    late: &[u32],
-    price: &[u32],
-    count: &[u8],
-    opens: &[usize],
-    tracks: u32,
+    tables: &SetTables,
+    sizes: Sizes,
     later: usize,
     j: usize,
-    slots: usize,
-    size: usize,
 )
-    requires { Given size slots (tables_of need.now late.now price.now count.now opens.now) × Room size tracks price.now × Later slots j later opens.now × (0 < j) × (j < slots) × (size ≤ length cost.old) × (slots * size ≤ length choice.old) × SolvedFrom (tables_of need.now late.now price.now count.now opens.now) (Reachable size tracks) size slots (j + 1) cost.old choice.old cost.old choice.old }
-    ensures { SolvedFrom (tables_of need.now late.now price.now count.now opens.now) (Reachable size tracks) size slots j cost.old choice.old cost.new choice.new }
+    requires { Fillable sizes (lent tables.now) cost.old choice.old × Later sizes.slots j later tables.now.opens.now × (0 < j) × (j < sizes.slots) × SolvedTo sizes (lent tables.now) (j + 1) cost.old choice.old cost.old choice.old }
+    ensures { SolvedTo sizes (lent tables.now) j cost.old choice.old cost.new choice.new }
 {
-    let room = tracks * ((slots - j) as u32);
-    let gone = tracks * (j as u32);
-    let all = usize::count_ones(size - 1);
-    let mut r = size;
-    while 0 < r {
-        r -= 1;
+    let room = sizes.tracks * ((sizes.slots - j) as u32);
+    let gone = sizes.tracks * (j as u32);
+    let fewest = usize::count_ones(sizes.sets - 1).saturating_sub(gone);
+    for r in (0..sizes.sets).rev() {
         let trains = usize::count_ones(r);
-        if all <= trains + gone {
+        if fewest <= trains {
             let p = if (room < trains) | (r & later != r) {
                 Pick {
                     value: staging::NONE,
                     set: 0,
                 }
             } else {
-                cells::cheapest(cost, need, late, price, count, opens, j, r)
+                cells::cheapest(cost, tables, j, r)
             };
             cost[r] = p.value;
-            choice[j * size + r] = p.set;
+            choice[j * sizes.sets + r] = p.set;
         }
     }
 }
 
-// The cell of all trains in the first slot, from the table of the second: before the first slot nothing else can remain. `tracks` is
+// The cell of all trains in the first slot, from the table of the second: before the first slot nothing else can remain. The tracks are
 // read by the contract alone.
-pub fn fill_first(
-    cost: &mut [u64],
-    choice: &mut [u16],
-    need: &[u16],
-    late: &[u32],
-    price: &[u32],
-    count: &[u8],
-    opens: &[usize],
-    tracks: u32,
-    slots: usize,
-    size: usize,
-)
-    requires { Given size slots (tables_of need.now late.now price.now count.now opens.now) × Room size tracks price.now × (size ≤ length cost.old) × (slots * size ≤ length choice.old) × SolvedFrom (tables_of need.now late.now price.now count.now opens.now) (Reachable size tracks) size slots 1 cost.old choice.old cost.old choice.old }
-    ensures { SolvedFrom (tables_of need.now late.now price.now count.now opens.now) (Reachable size tracks) size slots 0 cost.old choice.old cost.new choice.new }
+pub fn fill_first(cost: &mut [u64], choice: &mut [u16], tables: &SetTables, sizes: Sizes)
+    requires { Fillable sizes (lent tables.now) cost.old choice.old × SolvedTo sizes (lent tables.now) 1 cost.old choice.old cost.old choice.old }
+    ensures { SolvedTo sizes (lent tables.now) 0 cost.old choice.old cost.new choice.new }
 {
-    let r = size - 1;
-    let p = cells::cheapest(cost, need, late, price, count, opens, 0, r);
+    let r = sizes.sets - 1;
+    let p = cells::cheapest(cost, tables, 0, r);
     cost[r] = p.value;
     choice[r] = p.set;
 }

@@ -1,42 +1,45 @@
 -- What serving a plan and a slot does to the plans gathered, for every day whose numbers, boxes and tables are those given.
 -- Assumes nothing.
-use Rattle.std.specs.Prelude.{◌≡◌, Bool, List, ℕ, suc, ltb, length}
+use Rattle.std.specs.Prelude.{◌≡◌, ℕ, suc, ltb, length}
 use Rattle.model.specs.Model.{Yard}
 use Rattle.staging.specs.Tables.{open_in}
 use Rattle.beam.specs.Beam.{remained, kept}
 use Rattle.beam.specs.HeldWords.{Holds}
-use Rattle.gathering.specs.Gathering.{Gathering, Before, Passed}
-use Rattle.candidates.specs.declared.Sizes.{Sizes}
-use Rattle.candidates.specs.Given.{Trains, yard_of}
+use Rattle.held_plans.specs.declared.Held.{Held}
+use Rattle.held_plans.specs.declared.HeldPlan.{HeldPlan}
+use Rattle.held_plans.specs.Words.{words}
+use Rattle.gathering.specs.Gathering.{Gathers, Before, Passed}
+use Rattle.candidates.specs.declared.DayTables.{DayTables}
+use Rattle.candidates.specs.Given.{Trains, yard_in}
 use Rattle.set_serving.specs.Serving.{Right, PlanAt}
 
 -- all sets of the plan w; `ready` are the trains whose windows hold the slot
-abbrev pub ServesPlan : Sizes → List ℕ → List ℕ → List ℕ → ℕ → ℕ → List ℕ → ℕ → Bool → List ℕ → ℕ → Bool → Type 0
-ServesPlan z boxes ends w t ready a count dropped b count' dropped' =
-    (d : Trains) (k : ℕ) → Right z d boxes ends → PlanAt (yard_of z d boxes) z.width t k w → ready ≡ open_in z.trains d.first d.last (suc t)
-    → Gathering (yard_of z d boxes) z.width t (Before k) a count dropped
-    → Gathering (yard_of z d boxes) z.width t (Before (suc k)) b count' dropped'
+abbrev pub ServesPlan : DayTables → HeldPlan → ℕ → ℕ → Held → Held → Type 0
+ServesPlan f w t ready h h' =
+    (d : Trains) (k : ℕ) → Right f d → PlanAt (yard_in f d) f.sizes.width t k w → ready ≡ open_in f.boxes.trains d.first d.last (suc t)
+    → Gathers (yard_in f d) f.sizes.width t (Before k) h
+    → Gathers (yard_in f d) f.sizes.width t (Before (suc k)) h'
 
 -- its sets above s
-abbrev pub ServesAbove : Sizes → List ℕ → List ℕ → List ℕ → ℕ → ℕ → ℕ → List ℕ → ℕ → Bool → List ℕ → ℕ → Bool → Type 0
-ServesAbove z boxes ends w t ready s a count dropped b count' dropped' =
-    (d : Trains) (k : ℕ) → Right z d boxes ends → PlanAt (yard_of z d boxes) z.width t k w → ready ≡ open_in z.trains d.first d.last (suc t)
-    → Gathering (yard_of z d boxes) z.width t (Before k) a count dropped
-    → Gathering (yard_of z d boxes) z.width t (Passed k s) b count' dropped'
+abbrev pub ServesAbove : DayTables → HeldPlan → ℕ → ℕ → ℕ → Held → Held → Type 0
+ServesAbove f w t ready s h h' =
+    (d : Trains) (k : ℕ) → Right f d → PlanAt (yard_in f d) f.sizes.width t k w → ready ≡ open_in f.boxes.trains d.first d.last (suc t)
+    → Gathers (yard_in f d) f.sizes.width t (Before k) h
+    → Gathers (yard_in f d) f.sizes.width t (Passed k s) h'
 
--- the array holds the plans kept after slot t
-pub record HoldsKept (y : Yard) (width t : ℕ) (a : List ℕ) (count : ℕ) : Type 0 where
-  pub many : count ≡ length (kept y width t)
-  pub holds : Holds y a (kept y width t)
+-- the plans kept after slot t are held
+pub record HoldsKept (y : Yard) (width t : ℕ) (h : Held) : Type 0 where
+  pub many : h.count ≡ length (kept y width t)
+  pub holds : Holds y (words h.plans) (kept y width t)
 
 -- all plans kept after slot t: those kept after the next, and whether more remained
-abbrev pub ServesSlot : Sizes → List ℕ → List ℕ → ℕ → ℕ → List ℕ → ℕ → List ℕ → ℕ → Bool → Type 0
-ServesSlot z boxes ends t ready a count b count' dropped' =
-    (d : Trains) → Right z d boxes ends → ready ≡ open_in z.trains d.first d.last (suc t) → HoldsKept (yard_of z d boxes) z.width t a count
-    → HoldsKept (yard_of z d boxes) z.width (suc t) b count' × (dropped' ≡ ltb z.width (length (remained (yard_of z d boxes) z.width (suc t))))
+abbrev pub ServesSlot : DayTables → ℕ → ℕ → Held → Held → Type 0
+ServesSlot f t ready h h' =
+    (d : Trains) → Right f d → ready ≡ open_in f.boxes.trains d.first d.last (suc t) → HoldsKept (yard_in f d) f.sizes.width t h
+    → HoldsKept (yard_in f d) f.sizes.width (suc t) h' × (h'.dropped ≡ ltb f.sizes.width (length (remained (yard_in f d) f.sizes.width (suc t))))
 
 -- the plans before place k
-abbrev pub ServesBefore : Sizes → List ℕ → List ℕ → ℕ → ℕ → ℕ → List ℕ → ℕ → List ℕ → ℕ → Bool → Type 0
-ServesBefore z boxes ends t ready k a count b count' dropped' =
-    (d : Trains) → Right z d boxes ends → ready ≡ open_in z.trains d.first d.last (suc t) → HoldsKept (yard_of z d boxes) z.width t a count
-    → Gathering (yard_of z d boxes) z.width t (Before k) b count' dropped'
+abbrev pub ServesBefore : DayTables → ℕ → ℕ → ℕ → Held → Held → Type 0
+ServesBefore f t ready k h h' =
+    (d : Trains) → Right f d → ready ≡ open_in f.boxes.trains d.first d.last (suc t) → HoldsKept (yard_in f d) f.sizes.width t h
+    → Gathers (yard_in f d) f.sizes.width t (Before k) h'

@@ -1,6 +1,7 @@
 -- The earliest and the latest of the slots 1 to n that passes a test: what they say, and that nothing else does.
 -- Assumes nothing.
-use Rattle.std.specs.Prelude.{◌≡◌, refl, Bool, true, false, cond, T}
+use Rattle.std.specs.Prelude.{◌≡◌, refl, Bool, true, false, cond, Option, None, Some, MatchOption, T}
+use Rattle.std.specs.Option.{unwrap_or}
 use Rattle.std.proofs.Common.{subst, le_of_suc-le-suc}
 use Rattle.std.proofs.Math.Logic.{⊎_elim}
 use Prim.Native.Nat.{ℕ, zero, suc, ◌+◌, ◌≤◌, ◌<◌}
@@ -78,3 +79,17 @@ is_latest n p k h after here =
     ⊎_elim (λ (none : k ≤ 0). omega arith) (λ (inside : 0 < k). omega (arith, latest_last n p k h (here inside))) (le_or_lt k 0))
     (λ (up : k < latest_slot n p). absurd (after (latest_slot n p) up (latest_most n p) (latest_passes n p (omega arith))))
     (le_or_lt (latest_slot n p) k)
+
+-- ---- what a search up from the first slot finds, and one down from the last
+
+pub earliest_found : (n : ℕ) (p : ℕ → Bool) (r : Option ℕ)
+    → MatchOption r ((k : ℕ) → 1 ≤ k → k < n + 1 → p k ≡ false) (λ i. (1 ≤ i) × (i < n + 1) × (p i ≡ true) × ((k : ℕ) → 1 ≤ k → k < i → p k ≡ false))
+    → unwrap_or r (n + 1) ≡ earliest_slot n p
+earliest_found n p None none = is_earliest n p (n + 1) (omega arith) (omega arith) (λ j l h. of_false (none j l h)) (λ h. absurd (omega arith))
+earliest_found n p (Some i) (from, to, here, before) = is_earliest n p i from (omega arith) (λ j l h. of_false (before j l h)) (λ h. of_true here)
+
+pub latest_found : (n : ℕ) (p : ℕ → Bool) (r : Option ℕ)
+    → MatchOption r ((k : ℕ) → 1 ≤ k → k < n + 1 → p k ≡ false) (λ i. (1 ≤ i) × (i < n + 1) × (p i ≡ true) × ((k : ℕ) → i < k → k < n + 1 → p k ≡ false))
+    → unwrap_or r 0 ≡ latest_slot n p
+latest_found n p None none = is_latest n p 0 (omega arith) (λ j l h. of_false (none j (omega arith) (omega arith))) (λ h. absurd (omega arith))
+latest_found n p (Some i) (from, to, here, after) = is_latest n p i (omega arith) (λ j l h. of_false (after j l (omega arith))) (λ h. of_true here)

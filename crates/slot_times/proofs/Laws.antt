@@ -9,7 +9,7 @@ use Rattle.fold.specs.Counting.{le_or_lt, count_suc}
 use Rattle.fold.specs.Fold.{bit, sum, count}
 use Rattle.fold.specs.Sums.{sum_ext}
 use Rattle.slot_times.specs.Slots.{slot_start, slot_end, has_slot, slots_between, starts_in_time, ends_in_time, first_slot, last_slot}
-use Rattle.slot_times.proofs.Choice.{earliest_from, earliest_passes, earliest_least, is_earliest, latest_most, latest_passes, latest_last, is_latest}
+use Rattle.slot_times.proofs.Choice.{earliest_from, earliest_passes, earliest_least, latest_most, latest_passes, latest_last}
 
 -- ---- slots follow each other: one starts where the one before ends
 
@@ -99,14 +99,6 @@ module _ (opens length : ℕ) where
     unfolding first_slot
     starts_first k l s = earliest_least used (starts_in_time opens length arrival) k l (of_true (le-leb arrival (slot_start opens length k) s))
 
-    -- the loop's end
-    pub is_first : (k : ℕ) → 1 ≤ k → k ≤ used + 1 → ((j : ℕ) → 1 ≤ j → j < k → slot_start opens length j < arrival) → (k ≤ used → arrival ≤ slot_start opens length k)
-        → k ≡ first_slot opens length used arrival
-    unfolding first_slot
-    is_first k l h before here =
-        is_earliest used (starts_in_time opens length arrival) k l h (λ j a b t. omega (arith, before j a b, starts_is arrival j t))
-        (λ inside. of_true (le-leb arrival (slot_start opens length k) (here inside)))
-
   module _ (used departure : ℕ) where
     pub last_used : last_slot opens length used departure ≤ used
     unfolding last_slot
@@ -123,11 +115,3 @@ module _ (opens length : ℕ) where
     pub ends_last : (k : ℕ) → k ≤ used → slot_end opens length k ≤ departure → k ≤ last_slot opens length used departure
     unfolding last_slot
     ends_last k h s = latest_last used (ends_in_time opens length departure) k h (of_true (le-leb (slot_end opens length k) departure s))
-
-    -- the loop's end
-    pub is_last : (k : ℕ) → k ≤ used → ((j : ℕ) → k < j → j ≤ used → departure < slot_end opens length j) → (1 ≤ k → slot_end opens length k ≤ departure)
-        → k ≡ last_slot opens length used departure
-    unfolding last_slot
-    is_last k h after here =
-        is_latest used (ends_in_time opens length departure) k h (λ j a b t. omega (arith, after j a b, ends_is departure j t))
-        (λ inside. of_true (le-leb (slot_end opens length k) departure (here inside)))

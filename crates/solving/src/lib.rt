@@ -4,43 +4,27 @@
 // says. Over slices, for up to 12 trains and 8 slots. Assumes nothing.
 #![tactic(auto)]
 
-ghost use Rattle.std.specs.Prelude.{◌-◌, ◌*◌, ◌≤◌, ◌<◌, length};
-ghost use Rattle.staging.specs.Tables.{tables_of};
-ghost use Rattle.staging.specs.Reachable.{Reachable};
-ghost use Rattle.cells.specs.Given.{Given};
-ghost use Rattle.slot_filling.specs.Given.{Room, SolvedFrom};
+ghost use Rattle.cells.specs.Lent.{lent};
+ghost use Rattle.slot_filling.specs.Given.{Fillable, SolvedTo};
 
-// The least key of all trains in the last of the first `size` words of `cost`, and the choices that lead to it in the first
-// `slots * size` of `choice`, slot by slot from the last: the cells of what can remain. The others of these words may hold anything; the
+use cells::SetTables;
+use slot_filling::Sizes;
+
+// The least key of all trains in the last of the first `sets` words of `cost`, and the choices that lead to it in the first
+// `slots * sets` of `choice`, slot by slot from the last: the cells of what can remain. The others of these words may hold anything; the
 // words behind stay as they were.
-pub fn solve(
-    cost: &mut [u64],
-    choice: &mut [u16],
-    need: &[u16],
-    late: &[u32],
-    price: &[u32],
-    count: &[u8],
-    opens: &[usize],
-    tracks: u32,
-    slots: usize,
-    size: usize,
-)
-    requires { Given size slots (tables_of need.now late.now price.now count.now opens.now) × Room size tracks price.now × (size ≤ length cost.old) × (slots * size ≤ length choice.old) }
-    ensures { SolvedFrom (tables_of need.now late.now price.now count.now opens.now) (Reachable size tracks) size slots 0 cost.old choice.old cost.new choice.new }
+pub fn solve(cost: &mut [u64], choice: &mut [u16], tables: &SetTables, sizes: Sizes)
+    requires { Fillable sizes (lent tables.now) cost.old choice.old }
+    ensures { SolvedTo sizes (lent tables.now) 0 cost.old choice.old cost.new choice.new }
 {
-    slot_filling::fill_last(cost, choice, need, late, price, count, opens, slots, size);
-    let mut j = slots - 1;
-    let mut later = opens[j];
-    while 1 < j {
-        j -= 1;
-        later = later | opens[j];
-        slot_filling::fill_slot(
-            cost, choice, need, late, price, count, opens, tracks, later, j, slots, size,
-        );
+    slot_filling::fill_last(cost, choice, tables, sizes);
+    let last = sizes.slots - 1;
+    let mut later = tables.opens[last];
+    for j in (1..last).rev() {
+        later = later | tables.opens[j];
+        slot_filling::fill_slot(cost, choice, tables, sizes, later, j);
     }
-    if 0 < j {
-        slot_filling::fill_first(
-            cost, choice, need, late, price, count, opens, tracks, slots, size,
-        );
+    if 0 < last {
+        slot_filling::fill_first(cost, choice, tables, sizes);
     }
 }

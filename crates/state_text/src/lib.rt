@@ -12,23 +12,35 @@ ghost use Rattle.day.specs.Sound.{day_limits};
 ghost use Rattle.dayfile.specs.Size.{day_bytes};
 ghost use Rattle.telling.specs.Telling.{number_count};
 ghost use Rattle.rolling.specs.Rolling.{plan_of, state_sound, or_before};
-ghost use Rattle.rolling_state.specs.States.{state_in, answer, zero_state};
+ghost use Rattle.rolling_state.specs.States.{state_in, new_state, answer, zero_state};
 ghost use Rattle.state_text.specs.StateText.{kept_state};
 ghost use Rattle.state_text.specs.Laws.{PutState};
 
-use day::{Refusal, Verdict};
+use day::Refusal;
 use rolling_state::{Rolled, RollingState};
+use std::array;
 
 // A row of at most twelve slots, and 0 past it.
 fn padded(row: &[u8]) -> [u8; 12]
     requires { length row.now ≤ 12 }
     ensures { result ≡ column 12 (length row.now) (slot_of row.now) }
 {
-    let mut r = [0u8; 12];
-    for i in 0..row.len() {
-        r[i] = row[i];
+    array::from_fn(|i| if i < row.len() { row[i] } else { 0 })
+}
+
+// The state that is kept as these: reading's refusal, or 8 where the row is not one slot for each train.
+fn kept(text: &[u8], closed: u32, row: &[u8]) -> Result<RollingState, Refusal>
+    ensures { new_state result ≡ kept_state day_limits text.now closed row.now }
+{
+    let day = dayread::read_record(text)?;
+    if row.len() != day.trains {
+        return Err(Refusal::Unsound);
     }
-    r
+    Ok(RollingState {
+        day,
+        closed,
+        row: padded(row),
+    })
 }
 
 // The state of a text, a number of closed slots and a row: reading's refusal, or 8 where the row is not one slot for each train. (Whether the
@@ -37,21 +49,7 @@ pub fn state_of(text: &[u8], closed: u32, row: &[u8]) -> Rolled
     ensures result_value { answer result ≡ kept_state day_limits text.now closed row.now }
     ensures state_value { state_in result.state ≡ or_before zero_state (answer result) }
 {
-    let reading = dayread::read_day(text);
-    let verdict = reading.verdict;
-    if let Verdict::Refused(why) = verdict {
-        return rolling_state::refused(rolling_state::zero_state(), why);
-    }
-    let d = reading.day;
-    if row.len() != d.trains {
-        return rolling_state::refused(rolling_state::zero_state(), Refusal::Unsound);
-    }
-    let slots = padded(row);
-    rolling_state::taken(RollingState {
-        day: d,
-        closed: closed,
-        row: slots,
-    })
+    rolling_state::told(rolling_state::zero_state(), kept(text, closed, row))
 }
 
 // Tells the numbers of a state whose day file has this many bytes: closed slots, trains, bytes, 0.
@@ -59,11 +57,10 @@ pub fn put_figures(state: RollingState, bytes: usize, numbers: &mut [u64])
     requires { number_count ≤ length numbers.old }
     ensures { numbers.new ≡ state.closed ∷ state.day.trains ∷ bytes ∷ 0 ∷ drop number_count numbers.old }
 {
-    let d = state.day;
     telling::store_four(
         numbers,
         state.closed as u64,
-        d.trains as u64,
+        state.day.trains as u64,
         bytes as u64,
         0,
     );
@@ -74,10 +71,7 @@ pub fn put_plan(state: RollingState, next: &mut [u8])
     requires { T (state_sound day_limits (state_in state)) × (12 ≤ length next.old) }
     ensures { next.new ≡ plan_of (state_in state) ++ drop (length (plan_of (state_in state))) next.old }
 {
-    let d = state.day;
-    let row = state.row;
-    let n = d.trains;
-    output::put_bytes(next, 0, &row[..n]);
+    output::put_bytes(next, 0, &state.row[..state.day.trains]);
 }
 
 // Writes a sound state: its day file, its plan, its numbers.
@@ -85,8 +79,7 @@ pub fn put_state(state: RollingState, day: &mut [u8], next: &mut [u8], numbers: 
     requires { T (state_sound day_limits (state_in state)) × ((day_bytes ≤ length day.old) × ((12 ≤ length next.old) × (number_count ≤ length numbers.old))) }
     ensures { PutState (state_in state) day.old next.old numbers.old day.new next.new numbers.new }
 {
-    let d = state.day;
-    let count = daywrite::put_day(d, day);
+    let bytes = daywrite::put_day(state.day, day);
     put_plan(state, next);
-    put_figures(state, count, numbers);
+    put_figures(state, bytes, numbers);
 }

@@ -1,7 +1,10 @@
 -- A table that is filled from its first word on: the words below N are a function's values, and those from N on are as they were. It
 -- grows by a word, or by words that are added behind those that it has.
 -- Assumes nothing.
-use Rattle.std.specs.Prelude.{◌≡◌, refl, List, ◌⊎◌, ◌≢◌, ℕ, ◌+◌, ◌-◌, ◌≤◌, ◌<◌, length, get_or, set, drop}
+use Rattle.std.specs.Prelude.{◌≡◌, refl, List, ◌⊎◌, ◌≢◌, ℕ, ◌+◌, ◌-◌, ◌≤◌, ◌<◌, ◌++◌, length, get_or, set, take, drop}
+use Rattle.std.proofs.lemmas.List.{length-take-le, get_or_append_left}
+use Rattle.std.proofs.lemmas.Slice.{drop-append-drop}
+use Rattle.std.proofs.Math.Seq.{length_front}
 use Rattle.std.proofs.Common.{sym, ap, ◌∙◌, subst, inl, inr, le_antisymm, arith, drop-drop, get_or-drop, get_or-set_same, get_or-set_other}
 use Rattle.fold.specs.Counting.{same_or, le_or_lt}
 use Rattle.optimum.specs.Workspace.{at, Kept}
@@ -47,6 +50,16 @@ unread {N} {a₀} {a} h =
     let e : N + 0 ≡ N = omega arith in
     let here : (b : List ℕ) → get_or (drop N b) 0 0 ≡ at b N = λ b. get_or-drop N b 0 0 ∙ ap (λ (x : ℕ). get_or b x 0) e in
     sym (here a) ∙ ap (λ (b : List ℕ). get_or b 0 0) h.rest ∙ here a₀
+
+-- a loop over the first N words alone: what it leaves, and the words behind them
+pub filled_front : {f g : ℕ → ℕ} {n : ℕ} {a b : List ℕ} (N : ℕ) → Filled f n (take N a) b → N ≤ n → N ≤ length a → ((x : ℕ) → x < N → f x ≡ g x)
+    → Filled g N a (b ++ drop N a)
+filled_front {f} {g} {n} {a} {b} N h l m same =
+    let front : length b ≡ N = h.kept.long ∙ length-take-le N a m in
+    record {
+      kept = record { long = length_front a b N h.kept.long; rest = drop-append-drop N a b N (omega arith) front };
+      all = λ x q. get_or_append_left b (drop N a) 0 x (omega arith) ∙ h.all x (omega arith) ∙ same x q;
+    }
 
 -- ---- words added behind the first `base` ones, which stay as they are: the added word y is g y
 

@@ -1,5 +1,6 @@
 pub mod Given
 pub mod Entries
 pub mod Filled
+pub mod Doubled
 pub mod Needing
 pub mod Counts

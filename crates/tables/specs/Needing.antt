@@ -4,7 +4,8 @@ use Rattle.std.specs.Prelude.{◌≡◌, refl, cond, ◌&&◌, ◌||◌, List, �
 use Rattle.std.proofs.Math.Path.{sym}
 use Rattle.std.proofs.Common.{ap, ap₂, ◌∙◌, subst, inl, inr, ⊎_elim, pow-suc, one-mul, arith, eqb→eq, pow_mono, eq-eqb, ne_eqb}
 use Rattle.std.proofs.Math.Bool.{Bool}
-use Prim.Native.Nat.{ℕ, suc, ◌+◌, ◌^◌, ◌≤◌, ◌<◌}
+use Prim.Native.Nat.{ℕ, suc, ◌+◌, ◌*◌, ◌%◌, ◌^◌, ◌≤◌, ◌<◌}
+use Rattle.std.proofs.lemmas.Nat.{shl_whole}
 use Rattle.std.specs.Int.Bits.{bit_or, or_shifted_r}
 use Rattle.fold.specs.Test.{of_true, of_false, same_test_lem, both, both_of, left, right, either_of}
 use Rattle.fold.specs.Fold.{some, some_at, some_of, none_i}
@@ -14,8 +15,9 @@ use Rattle.sets.specs.Mask.{has, mask, has-mask, mask_ext, mask-has, mask_or, ma
 use Rattle.model.specs.Model.{supplies}
 use Rattle.sets.specs.Rest.{has_none}
 use Rattle.staging.specs.Tables.{needing}
-use Rattle.tables.specs.Entries.{receivers, with_supplier}
-use Rattle.tables.specs.Filled.{Filled, Added, filled_none, filled_next, added-filled}
+use Rattle.tables.specs.Entries.{receivers}
+use Rattle.tables.specs.Filled.{Filled, filled_none, filled_next}
+use Rattle.tables.specs.Doubled.{Doubled, train-added}
 
 -- ---- a set m below 2 ^ k, and the train k: its digits
 
@@ -86,12 +88,15 @@ module _ (n : ℕ) (a : ℕ → ℕ → ℕ) where
   needing_first b l = filled_next 0 (filled_none (needing n a) b) l (sym (needing_empty n a))
 
   -- the sets of the first k trains, and with them those of the first k + 1
-  pub needing-next : {b₀ b c : List ℕ} (k size more : ℕ) → Filled (needing n a) size b₀ b → size ≡ 2 ^ k → k < n → more ≡ receivers n a k
-      → Added (with_supplier b more) size size b c → Filled (needing n a) (size + size) b₀ c
-  needing-next k size more h e l r d =
-      added-filled h d
-      (λ m q. ap₂ bit_or (h.all m q) r ∙ sym (needing_join n a k m l (omega arith)) ∙ ap (λ s. needing n a (s + m)) (sym e))
+  pub needing-next : {R : ℕ → ℕ → Type 0} {b₀ b c : List ℕ} (k size more : ℕ) → Filled (needing n a) (2 ^ k) b₀ b → size ≡ 2 ^ k → k < n
+      → more ≡ receivers n a k → Doubled R size size b c → ((x v : ℕ) → R x v → v ≡ bit_or x more) → Filled (needing n a) (2 ^ (k + 1)) b₀ c
+  needing-next k size more h e l r d q =
+      train-added k h e d (λ m v i p. q (needing n a m) v p ∙ ap (bit_or (needing n a m)) r ∙ sym (needing_join n a k m l i))
 
 -- 2 ^ k sets of the first k trains, and as many with train k: no more than 2 ^ n, and that is at most 4096
 pub sets_fit : (k n size : ℕ) → size ≡ 2 ^ k → k < n → n ≤ 12 → (size + size ≤ 2 ^ n) × (2 ^ n ≤ 4096)
 sets_fit k n size e l m = omega (arith, pow-suc 2 k, pow_mono {i = suc k} {j = n} l, pow_mono {i = n} {j = 12} m)
+
+-- the code's shift gives as many
+pub sets_shifted : (k : ℕ) → k ≤ 12 → 1 * 2 ^ k % 2 ^ 64 ≡ 2 ^ k
+sets_shifted k l = shl_whole 1 1 k 64 (omega arith) (omega arith) ∙ one-mul (2 ^ k)

@@ -1,10 +1,11 @@
 -- What a caller who lends room for numbers is told about the day of a text: the four numbers of a row, or what the refusal carries. The
 -- same of any count of numbers, for calls that tell more than a row's.
 -- Assumes nothing.
-use Rattle.std.specs.Prelude.{cond, List, [], ◌∷◌, ◌++◌, ℕ, zero, suc, leb, length, get_or, drop}
+use Rattle.std.specs.Prelude.{cond, List, [], ◌∷◌, ◌++◌, ℕ, zero, suc, leb, length, get_or, drop, Result, Ok, Err}
 use Rattle.model.specs.Model.{Yard, Outcome}
-use Rattle.day.specs.Answer.{Answer, gives, refuses, on_given, where_given, must, checked}
+use Rattle.day.specs.Answer.{Answer, gives, refuses, on_given, where_given, must, checked, carried}
 use Rattle.day.specs.declared.Limits.{Limits}
+use Rattle.day.specs.declared.Refusal.{Refusal}
 use Rattle.counting.specs.Counting.{figures_of}
 use Rattle.dayfile.specs.Reading.{read_day}
 
@@ -50,3 +51,8 @@ numbers_after = after_by number_count figures_of
 -- the slots written where a plan is told: as many as the day has trains, or none
 abbrev pub slots_in : {X : Type 0} → Yard → Answer X → ℕ
 slots_in y a = where_given a 0 λ o. y.trains
+
+-- the line of a verdict's refusal, 0 where it is accepted
+abbrev pub verdict_line : Result Unit Refusal → ℕ
+verdict_line (Ok u) = 0
+verdict_line (Err r) = get_or (carried r) 0 0

@@ -7,62 +7,46 @@
 #![tactic(auto)]
 
 ghost use Rattle.std.specs.Prelude.{◌≡◌, ◌≤◌, length, set};
-ghost use Rattle.day.specs.Answer.{gives, refusal, code};
+ghost use Rattle.counting.specs.Counting.{outcome_of};
+ghost use Rattle.day.specs.Answer.{gives, refusal, code, answered, on_given};
 ghost use Rattle.valuing.specs.Valuing.{valued};
 ghost use Rattle.dayfile.specs.Reading.{read_day};
-ghost use Rattle.telling.specs.Telling.{number_count, numbers_after};
-ghost use Rattle.telling.specs.Laws.{Told};
+ghost use Rattle.telling.specs.Telling.{numbers_after};
 ghost use Rattle.text_value.specs.TextValue.{line, value_text};
 ghost use Rattle.long_day.specs.LongDay.{long_limits, long_yard};
 ghost use Rattle.long_planning.specs.LongPlanning.{long_outcome_of};
 ghost use Rattle.text_long.specs.TextLong.{long_number_count, long_numbers_after, long_plan_for, long_row_for, long_slots_for};
 ghost use Rattle.text_long.specs.Laws.{LongTold, PlansLongDay};
 
-use day::{Refusal, Verdict};
+use counting::Value;
+use day::Refusal;
 use long_day::LongDay;
-use long_planning::{LongPlanned, LongValue};
-use valuing::Valued;
+use long_planning::LongValue;
 
 // ---- checking
 
 // Whether a text is a long day's file: 0, or the number of the refusal and its line.
+// Stays: it gives the number of a refusal, since it is the body of the C function `yard_long_check`.
 pub fn check_long_text(text: &[u8], at: &mut u64) -> u64
     ensures value { result ≡ code (read_day long_limits text.now) }
     ensures at_after { at.new ≡ line (read_day long_limits text.now) }
 {
-    let reading = long_read::read_long_day(text);
-    let verdict = reading.verdict;
-    match verdict {
-        Verdict::Accepted => {
-            *at = 0;
-            0
-        }
-        Verdict::Refused(refusal) => {
-            let told = refusals::in_numbers(refusal);
-            *at = told.first;
-            told.number
-        }
-    }
+    telling::tell_line(at, long_read::read_long_day(text).verdict)
 }
 
 // ---- valuing
 
-// Values a row of a long day that was read.
-fn value_long_day(day: LongDay, row: &[u8], numbers: &mut [u64]) -> u64
-    requires { number_count ≤ length numbers.old }
-    ensures { Told numbers.old (valued long_limits (long_yard day) row.now) result numbers.new }
+// The numbers of a row of slots on the long day of a text.
+fn value_on(text: &[u8], row: &[u8]) -> Result<Value, Refusal>
+    ensures { answered outcome_of result ≡ on_given (read_day long_limits text.now) (λ y. valued long_limits y row.now) }
 {
-    match long_value::value_long_assignment(day, row) {
-        Valued::Values(value) => {
-            telling::store_value(numbers, value);
-            0
-        }
-        Valued::Refused(refusal) => telling::tell(numbers, refusal),
-    }
+    let day = long_read::read_long_record(text)?;
+    long_value::value_long_assignment(day, row)
 }
 
 // Values a row of slots on the long day of a text: 0 with revisits, split moves, direct moves and cost in the first four numbers; or the number
 // of the refusal with what it carries there, zeros behind it. 10 where there is no room for four numbers, and then none changes.
+// Stays: it gives the number of a refusal, since it is the body of the C function `yard_long_value`.
 pub fn value_long_text(text: &[u8], row: &[u8], numbers: &mut [u64]) -> u64
     ensures value { result ≡ code (value_text long_limits text.now row.now (length numbers.old)) }
     ensures numbers_after { numbers.new ≡ numbers_after (value_text long_limits text.now row.now (length numbers.old)) numbers.old }
@@ -70,12 +54,7 @@ pub fn value_long_text(text: &[u8], row: &[u8], numbers: &mut [u64]) -> u64
     if !telling::is_room(numbers.len()) {
         return 10;
     }
-    let reading = long_read::read_long_day(text);
-    let verdict = reading.verdict;
-    match verdict {
-        Verdict::Accepted => value_long_day(reading.day, row, numbers),
-        Verdict::Refused(refusal) => telling::tell(numbers, refusal),
-    }
+    telling::tell_valued(numbers, value_on(text, row))
 }
 
 // ---- planning
@@ -120,12 +99,12 @@ fn plan_long_day(
     ensures { PlansLongDay (long_yard day) width row.old numbers.old result row.new numbers.new trains.new }
 {
     match long_planning::plan_long(day, width, row) {
-        LongPlanned::Plan(found) => {
+        Ok(found) => {
             *trains = day.trains;
             store_found(numbers, found);
             0
         }
-        LongPlanned::Refused(refusal) => {
+        Err(refusal) => {
             *trains = 0;
             tell_long(numbers, refusal)
         }
@@ -135,6 +114,7 @@ fn plan_long_day(
 // Plans the long day of a text at a width: 0 with the slots in the first bytes of `row`, revisits, split moves, direct moves, cost, the number
 // of full slots and the lower figure in the first six `numbers`, and the number of slots in `trains`; or the number of the refusal with what
 // it carries. 10 where there is no room for six numbers comes before reading; then 21, and 10 where the row is too short.
+// Stays: it gives the number of a refusal, since it is the body of the C function `yard_long_plan`.
 pub fn plan_long_text(
     text: &[u8],
     width: u32,
@@ -151,10 +131,8 @@ pub fn plan_long_text(
     if numbers.len() < 6 {
         return 10;
     }
-    let reading = long_read::read_long_day(text);
-    let verdict = reading.verdict;
-    match verdict {
-        Verdict::Accepted => plan_long_day(reading.day, width, row, numbers, trains),
-        Verdict::Refused(refusal) => tell_long(numbers, refusal),
+    match long_read::read_long_record(text) {
+        Ok(day) => plan_long_day(day, width, row, numbers, trains),
+        Err(refusal) => tell_long(numbers, refusal),
     }
 }

@@ -18,12 +18,9 @@ fn put_numbers(out: &mut [u64], at: usize, numbers: &[u64]) -> usize
     requires { at + length numbers.now ≤ length out.old }
     ensures { Put out.old out.new at result numbers.now }
 {
-    let mut i = 0;
-    while i < numbers.len() {
-        out[at + i] = numbers[i];
-        i += 1;
-    }
-    at + numbers.len()
+    let end = at + numbers.len();
+    out[at..end].copy_from_slice(numbers);
+    end
 }
 
 // Stores the numbers of a report at the front.
@@ -55,6 +52,7 @@ fn store_report(out: &mut [u64], report: Report)
 
 // The report over the days of a text: 0 with its numbers, or 22 with zeros. 10 where there is no room for them, and then none changes. The
 // areas are local.
+// Stays: it gives the number of a refusal, since it is the body of the C function `yard_season`.
 pub fn tell_report(text: &[u8], numbers: &mut [u64]) -> u64
     ensures value { result ≡ code (report_for day_limits text.now (length numbers.old)) }
     ensures numbers_after { numbers.new ≡ report_after (report_for day_limits text.now (length numbers.old)) numbers.old }
@@ -65,8 +63,6 @@ pub fn tell_report(text: &[u8], numbers: &mut [u64]) -> u64
     let mut cost = [0u64; 4096];
     let mut choice = [0u16; 32768];
     let reported = reporting::report_period(text, &mut cost, &mut choice);
-    let report = reported.report;
-    store_report(numbers, report);
-    let verdict = reported.verdict;
-    refusals::number_of(verdict)
+    store_report(numbers, reported.report);
+    refusals::number_of(reported.verdict)
 }

@@ -12,8 +12,7 @@ ghost use Rattle.telling.specs.Telling.{number_count, numbers_after};
 ghost use Rattle.text_plan.specs.TextPlan.{plan_for, row_for, open_for, slots_for};
 ghost use Rattle.text_plan.specs.Laws.{PlansDay};
 
-use day::{Day, Verdict};
-use planning::Planned;
+use day::Day;
 
 // Plans a day that was read, and tells the four numbers or the refusal.
 fn plan_day(
@@ -28,12 +27,12 @@ fn plan_day(
     ensures { PlansDay day_limits (yard day) cost.old choice.old row.old numbers.old result cost.new choice.new row.new numbers.new trains.new }
 {
     match planning::plan(day, cost, choice, row) {
-        Planned::Plan(value) => {
+        Ok(value) => {
             *trains = day.trains;
             telling::store_value(numbers, value);
             0
         }
-        Planned::Refused(refusal) => {
+        Err(refusal) => {
             *trains = 0;
             telling::tell(numbers, refusal)
         }
@@ -43,6 +42,7 @@ fn plan_day(
 // Plans the day of a text: 0 with the slots in the first bytes of `row`, the four numbers in the first `numbers` and the number of slots
 // in `trains`; or the number of the refusal with what it carries. 10 where there is no room for four numbers comes before reading, 10
 // where an area or the row is too short after it.
+// Stays: it gives the number of a refusal, since it is the body of the C function `yard_plan_in_workspace`.
 pub fn plan_text(
     text: &[u8],
     cost: &mut [u64],
@@ -62,10 +62,8 @@ pub fn plan_text(
     if !telling::is_room(numbers.len()) {
         return 10;
     }
-    let reading = dayread::read_day(text);
-    let verdict = reading.verdict;
-    match verdict {
-        Verdict::Accepted => plan_day(reading.day, cost, choice, row, numbers, trains),
-        Verdict::Refused(refusal) => telling::tell(numbers, refusal),
+    match dayread::read_record(text) {
+        Ok(day) => plan_day(day, cost, choice, row, numbers, trains),
+        Err(refusal) => telling::tell(numbers, refusal),
     }
 }

@@ -20,8 +20,14 @@ ghost use Rattle.text_rolling.specs.TextRolling.{begin_for, close_for, change_fo
 ghost use Rattle.text_rolling.specs.Laws.{BegunDay, ChangedState};
 
 use account_edits::Change;
-use day::{Day, Refusal, Verdict};
+use day::{Day, Refusal};
 use rolling_state::RollingState;
+
+// The most trains of a day: a plan is a byte for each, so this is the room for one.
+const MOST_TRAINS: usize = 12;
+
+// Stays: numbers of refusals and no Result, and each lent slice is a parameter of its own: the three public functions are the bodies of the C
+// functions `yard_begin`, `yard_close`, and `yard_cancel`, `yard_add` and `yard_set_boxes`; their clauses `value` name the number.
 
 // Begins a day that was read from a text of so many bytes.
 fn begin_day(
@@ -35,14 +41,12 @@ fn begin_day(
     requires { (bytes ≡ length (day_text day_limits (yard day))) × ((day_limits.trains ≤ length next.old) × (number_count ≤ length numbers.old)) }
     ensures { BegunDay (yard day) cost.old choice.old next.old numbers.old result cost.new choice.new next.new numbers.new }
 {
-    let rolled = replanning::begin(day, cost, choice);
-    let verdict = rolled.verdict;
-    if let Verdict::Refused(why) = verdict {
+    let begun = replanning::begin(day, cost, choice);
+    if let Err(why) = begun.verdict {
         return telling::tell(numbers, why);
     }
-    let state = rolled.state;
-    state_text::put_plan(state, next);
-    state_text::put_figures(state, bytes, numbers);
+    state_text::put_plan(begun.state, next);
+    state_text::put_figures(begun.state, bytes, numbers);
     0
 }
 
@@ -63,15 +67,13 @@ pub fn begin_text(
     if !telling::is_room(numbers.len()) {
         return 10;
     }
-    if next.len() < 12 {
+    if next.len() < MOST_TRAINS {
         return telling::tell(numbers, Refusal::TooShort);
     }
-    let reading = dayread::read_day(text);
-    let verdict = reading.verdict;
-    if let Verdict::Refused(why) = verdict {
-        return telling::tell(numbers, why);
+    match dayread::read_record(text) {
+        Ok(day) => begin_day(day, text.len(), cost, choice, next, numbers),
+        Err(why) => telling::tell(numbers, why),
     }
-    begin_day(reading.day, text.len(), cost, choice, next, numbers)
 }
 
 // Closes the first open slot of a kept state: 0 with the state's numbers; or the refusal with what it carries. The text and the row stay.
@@ -83,18 +85,14 @@ pub fn close_text(text: &[u8], closed: u32, row: &[u8], numbers: &mut [u64]) -> 
         return 10;
     }
     let kept = state_text::state_of(text, closed, row);
-    let verdict = kept.verdict;
-    if let Verdict::Refused(why) = verdict {
+    if let Err(why) = kept.verdict {
         return telling::tell(numbers, why);
     }
-    let state = kept.state;
-    let rolled = rolling_state::close(state);
-    let answer = rolled.verdict;
-    if let Verdict::Refused(why) = answer {
+    let next = rolling_state::close(kept.state);
+    if let Err(why) = next.verdict {
         return telling::tell(numbers, why);
     }
-    let next = rolled.state;
-    state_text::put_figures(next, text.len(), numbers);
+    state_text::put_figures(next.state, text.len(), numbers);
     0
 }
 
@@ -111,13 +109,11 @@ fn change_state(
     requires { (day_bytes ≤ length day.old) × ((day_limits.trains ≤ length next.old) × (number_count ≤ length numbers.old)) }
     ensures { ChangedState (state_in state) (changing (change_in change) (length cost.old) (length choice.old)) cost.old choice.old day.old next.old numbers.old result cost.new choice.new day.new next.new numbers.new }
 {
-    let rolled = rolling_calls::change(state, change, cost, choice);
-    let verdict = rolled.verdict;
-    if let Verdict::Refused(why) = verdict {
+    let changed = rolling_calls::change(state, change, cost, choice);
+    if let Err(why) = changed.verdict {
         return telling::tell(numbers, why);
     }
-    let new = rolled.state;
-    state_text::put_state(new, day, next, numbers);
+    state_text::put_state(changed.state, day, next, numbers);
     0
 }
 
@@ -144,12 +140,11 @@ pub fn change_text(
     if !telling::is_room(numbers.len()) {
         return 10;
     }
-    if !((dayfile::DAY_BYTES <= day.len()) & (12 <= next.len())) {
+    if !((dayfile::DAY_BYTES <= day.len()) & (MOST_TRAINS <= next.len())) {
         return telling::tell(numbers, Refusal::TooShort);
     }
     let kept = state_text::state_of(text, closed, row);
-    let verdict = kept.verdict;
-    if let Verdict::Refused(why) = verdict {
+    if let Err(why) = kept.verdict {
         return telling::tell(numbers, why);
     }
     change_state(kept.state, change, cost, choice, day, next, numbers)

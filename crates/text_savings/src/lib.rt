@@ -15,7 +15,7 @@ ghost use Rattle.text_savings.specs.Laws.{ToldSaving};
 
 use baselines::Procedure;
 use comparing::Baseline;
-use day::{Day, Verdict};
+use day::Day;
 
 // Stores the numbers of a comparison, or what its refusal carries, and the saving.
 fn tell_baseline(baseline: Baseline, numbers: &mut [u64], saving: &mut i64) -> u64
@@ -23,15 +23,13 @@ fn tell_baseline(baseline: Baseline, numbers: &mut [u64], saving: &mut i64) -> u
     requires baseline_value { comparison_of baseline ≡ comparison_or_zero (judged baseline.verdict (comparison_of baseline)) }
     ensures { ToldSaving numbers.old (judged baseline.verdict (comparison_of baseline)) result numbers.new saving.new }
 {
-    let saved = baseline.saving;
-    *saving = saved;
-    let verdict = baseline.verdict;
-    match verdict {
-        Verdict::Accepted => {
+    *saving = baseline.saving;
+    match baseline.verdict {
+        Ok(()) => {
             telling::store_value(numbers, baseline.value);
             0
         }
-        Verdict::Refused(refusal) => telling::tell(numbers, refusal),
+        Err(refusal) => telling::tell(numbers, refusal),
     }
 }
 
@@ -47,6 +45,7 @@ fn compare_day(procedure: Procedure, day: Day, numbers: &mut [u64], saving: &mut
 }
 
 // Compares the day of a text: 10 where there is no room for four numbers, and then none changes.
+// Stays: it gives the number of a refusal, since it is the body of two C functions, `yard_myopic` among them.
 pub fn compare_text(procedure: Procedure, text: &[u8], numbers: &mut [u64], saving: &mut i64) -> u64
     ensures value { result ≡ code (compare_text (row_by procedure) day_limits text.now (length numbers.old)) }
     ensures numbers_after { numbers.new ≡ numbers_after (outcomes (compare_text (row_by procedure) day_limits text.now (length numbers.old))) numbers.old }
@@ -56,10 +55,8 @@ pub fn compare_text(procedure: Procedure, text: &[u8], numbers: &mut [u64], savi
     if !telling::is_room(numbers.len()) {
         return 10;
     }
-    let reading = dayread::read_day(text);
-    let verdict = reading.verdict;
-    match verdict {
-        Verdict::Accepted => compare_day(procedure, reading.day, numbers, saving),
-        Verdict::Refused(refusal) => telling::tell(numbers, refusal),
+    match dayread::read_record(text) {
+        Ok(day) => compare_day(procedure, day, numbers, saving),
+        Err(refusal) => telling::tell(numbers, refusal),
     }
 }

@@ -1,14 +1,15 @@
 -- Each answer of valuing a row for a text, from what the code has found.
 -- Assumes nothing.
-use Rattle.std.specs.Prelude.{◌≡◌, true, false, List, ℕ, leb, length}
-use Rattle.model.specs.Model.{Outcome}
-use Rattle.day.specs.Answer.{Answer, code, on_given}
+use Rattle.std.specs.Prelude.{◌≡◌, refl, true, false, List, ℕ, leb, length, Result, Ok, Err}
+use Rattle.model.specs.Model.{Yard, Outcome}
+use Rattle.day.specs.Answer.{Answer, code, on_given, judged}
 use Rattle.day.specs.declared.Limits.{Limits}
+use Rattle.day.specs.declared.Refusal.{Refusal}
 use Rattle.valuing.specs.Valuing.{valued}
 use Rattle.dayfile.specs.Reading.{read_day}
-use Rattle.telling.specs.Telling.{number_count, numbers_after}
+use Rattle.telling.specs.Telling.{number_count, numbers_after, verdict_line}
 use Rattle.telling.specs.Laws.{Told, told_after, none_told}
-use Rattle.text_value.specs.TextValue.{value_text}
+use Rattle.text_value.specs.TextValue.{line, value_text}
 
 module _ (l : Limits) (text numbers : List ℕ) where
   pub no_value : (row : List ℕ) → leb number_count (length numbers) ≡ false → (10 ≡ code (value_text l text row (length numbers))) × (numbers ≡ numbers_after (value_text l text row (length numbers)) numbers)
@@ -19,3 +20,8 @@ module _ (l : Limits) (text numbers : List ℕ) where
       → (said ≡ code (value_text l text row (length numbers))) × (after ≡ numbers_after (value_text l text row (length numbers)) numbers)
   unfolding value_text
   told-value row h e t = (rw (h, e) t.says, rw (h, e) (told_after h t))
+
+-- the line of a verdict is that of the answer that it makes, whatever stands beside it
+pub judged-line : (v : Result Unit Refusal) (y : Yard) → verdict_line v ≡ line (judged v y)
+judged-line (Ok u) y = refl
+judged-line (Err r) y = refl

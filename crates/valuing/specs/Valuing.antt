@@ -1,21 +1,20 @@
 -- What valuing answers, for any record and any row: the checks 8, 11, 12, 13 of document 01 and 17 of document 02 in this order, else the
 -- model's four numbers.
 -- Assumes nothing.
-use Rattle.std.specs.Prelude.{Bool, not, List, [], ◌∷◌, ℕ, suc, eqb, length}
+use Rattle.std.specs.Prelude.{Bool, not, List, [], ◌∷◌, ℕ, suc, eqb, length, Result}
 use Rattle.fold.specs.Fold.{each, lowest}
 use Rattle.model.specs.Model.{Yard, Outcome, outcome, in_window, roomy, kept, parted}
 use Rattle.day.specs.Sound.{sound}
-use Rattle.day.specs.Answer.{Answer, gives, refusal, Check, must, checked}
+use Rattle.day.specs.Answer.{Answer, gives, answered, Check, must, checked}
 use Rattle.day.specs.declared.Limits.{Limits}
+use Rattle.day.specs.declared.Refusal.{Refusal}
 use Rattle.counting.specs.Counting.{outcome_of}
-use Rattle.valuing.specs.declared.Valued.{Valued}
-use Rattle.valuing.specs.declared.Valued.TheVariants.{Values, Refused}
+use Rattle.counting.specs.declared.Value.{Value}
 
 -- ---- the code's answer in 01's numbers
 
-abbrev pub answer : Valued → Answer Outcome
-answer (Values v) = gives (outcome_of v)
-answer (Refused r) = refusal r
+abbrev pub answer : Result Value Refusal → Answer Outcome
+answer = answered outcome_of
 
 -- ---- the checks
 

@@ -22,12 +22,7 @@ fn leaves_member(groups: &[u8], row: &[u8], n: usize, i: usize) -> bool
     requires { (i < n) × ((n ≤ length groups.now) × (n ≤ length row.now)) }
     ensures { result ≡ some n (apart groups.now row.now i) }
 {
-    for j in 0..n {
-        if is_apart(groups, row, i, j) {
-            return true;
-        }
-    }
-    false
+    (0..n).any(|j| is_apart(groups, row, i, j))
 }
 
 // Whether group g is parted.
@@ -35,12 +30,7 @@ fn is_parted(groups: &[u8], row: &[u8], n: usize, g: u8) -> bool
     requires { (n ≤ length groups.now) × (n ≤ length row.now) }
     ensures { result ≡ parted n groups.now row.now g }
 {
-    for i in 0..n {
-        if (groups[i] == g) & leaves_member(groups, row, n, i) {
-            return true;
-        }
-    }
-    false
+    (0..n).any(|i| (groups[i] == g) & leaves_member(groups, row, n, i))
 }
 
 // The lowest of the groups 1 to `most` that the row parts, counted from 0, or `most`.
@@ -48,10 +38,7 @@ pub fn first_parted(groups: &[u8], row: &[u8], n: usize, most: u8) -> u8
     requires { (n ≤ length groups.now) × (n ≤ length row.now) }
     ensures { result ≡ lowest most (parts n groups.now row.now) }
 {
-    for g in 0..most {
-        if is_parted(groups, row, n, g + 1) {
-            return g;
-        }
-    }
-    most
+    (0..most)
+        .find(|&g| is_parted(groups, row, n, g + 1))
+        .unwrap_or(most)
 }

@@ -10,6 +10,7 @@ ghost use Rattle.std.specs.Prelude.{◌≡◌, length};
 ghost use Rattle.day.specs.Answer.{code};
 ghost use Rattle.day.specs.Sound.{day_limits};
 ghost use Rattle.dayfile.specs.Reading.{read_day};
+ghost use Rattle.output.specs.Output.{answer as written_answer};
 ghost use Rattle.answering.specs.Answering.{answer_writes, answer_leaves};
 ghost use Rattle.procedures.specs.Procedures.{first_come, myopic};
 ghost use Rattle.comparing.specs.Comparing.{comparison_or_zero};
@@ -32,7 +33,8 @@ ghost use Rattle.yard.specs.Interface.{version, count};
 
 use account_edits::Change;
 use baselines::Procedure;
-use output::Wrote;
+use day::Refusal;
+use refusals::Numbered;
 
 // The version of include/yard.h that this library meets.
 #[unsafe(no_mangle)]
@@ -42,6 +44,23 @@ pub extern "C" fn yard_version() -> u64
     3
 }
 
+// Tells how many bytes were written and gives 0; or 0 bytes, and the number of the refusal.
+fn tell_count(written: Result<usize, Refusal>, bytes: &mut usize) -> u64
+    ensures value { result ≡ code (written_answer written) }
+    ensures bytes_after { bytes.new ≡ count (written_answer written) }
+{
+    match written {
+        Ok(n) => {
+            *bytes = n;
+            0
+        }
+        Err(refusal) => {
+            *bytes = 0;
+            Numbered::from(refusal).number
+        }
+    }
+}
+
 // What yard-plan prints for a text, in the first bytes of `out`, and their count; or 10, with a count of 0.
 #[unsafe(no_mangle)]
 pub extern "C" fn yard_answer(text: &[u8], out: &mut [u8], bytes: &mut usize) -> u64
@@ -49,16 +68,7 @@ pub extern "C" fn yard_answer(text: &[u8], out: &mut [u8], bytes: &mut usize) ->
     ensures bytes_after { bytes.new ≡ count (answer_writes day_limits text.now (length out.old)) }
     ensures out_after { out.new ≡ answer_leaves day_limits text.now out.old }
 {
-    match answering::answer_text(text, out) {
-        Wrote::Bytes(n) => {
-            *bytes = n;
-            0
-        }
-        Wrote::Refused(refusal) => {
-            *bytes = 0;
-            refusals::in_numbers(refusal).number
-        }
-    }
+    tell_count(answering::answer_text(text, out), bytes)
 }
 
 // Plans the day of a text in lent work areas: 0 with the slots in the first bytes of `row`, revisits, split moves, direct moves and cost in
@@ -239,8 +249,8 @@ pub extern "C" fn yard_add(
         row,
         Change::Add {
             number: train,
-            first: first,
-            last: last,
+            first,
+            last,
         },
         cost,
         choice,
@@ -276,11 +286,7 @@ pub extern "C" fn yard_set_boxes(
         text,
         closed,
         row,
-        Change::SetBoxes {
-            to: to,
-            from: from,
-            boxes: boxes,
-        },
+        Change::SetBoxes { to, from, boxes },
         cost,
         choice,
         day,
@@ -298,16 +304,7 @@ pub extern "C" fn yard_long_answer(text: &[u8], out: &mut [u8], bytes: &mut usiz
     ensures bytes_after { bytes.new ≡ count (long_answer_writes text.now (length out.old)) }
     ensures out_after { out.new ≡ long_answer_leaves text.now out.old }
 {
-    match long_answering::answer_long_text(text, out) {
-        Wrote::Bytes(n) => {
-            *bytes = n;
-            0
-        }
-        Wrote::Refused(refusal) => {
-            *bytes = 0;
-            refusals::in_numbers(refusal).number
-        }
-    }
+    tell_count(long_answering::answer_long_text(text, out), bytes)
 }
 
 // Plans the long day of a text at a width: 0 with the slots in the first bytes of `row`, revisits, split moves, direct moves, cost, the number
@@ -366,16 +363,7 @@ pub extern "C" fn yard_season_answer(text: &[u8], out: &mut [u8], bytes: &mut us
     ensures bytes_after { bytes.new ≡ count (period_writes text.now (length out.old)) }
     ensures out_after { out.new ≡ period_leaves text.now out.old }
 {
-    match period_answering::answer_period(text, out) {
-        Wrote::Bytes(n) => {
-            *bytes = n;
-            0
-        }
-        Wrote::Refused(refusal) => {
-            *bytes = 0;
-            refusals::in_numbers(refusal).number
-        }
-    }
+    tell_count(period_answering::answer_period(text, out), bytes)
 }
 
 // ---- opening hours and dates

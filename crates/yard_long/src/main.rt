@@ -6,14 +6,13 @@
 // day (the files stdin and stdout) is part of the gate.
 #![tactic(auto)]
 
-use output::Wrote;
 use std::io::{self, Write};
 
 fn main(rt: HostRuntime) -> io::Result<()> {
     let mut text = [0u8; 32768];
     let read = streams::read_full(&mut rt.stdin(), &mut text)?;
     let mut reply = [0u8; long_planfile::LONG_PLAN_BYTES];
-    if let Wrote::Bytes(count) = long_answering::answer_long_text(&text[..read], &mut reply) {
+    if let Ok(count) = long_answering::answer_long_text(&text[..read], &mut reply) {
         rt.stdout().write_all(&reply[..count])?;
     }
     Ok(())

@@ -6,14 +6,13 @@
 // the gate.
 #![tactic(auto)]
 
-use output::Wrote;
 use std::io::{self, Write};
 
 fn main(rt: HostRuntime) -> io::Result<()> {
     let mut text = [0u8; 4096];
     let read = streams::read_full(&mut rt.stdin(), &mut text)?;
     let mut reply = [0u8; planfile::PLAN_BYTES];
-    if let Wrote::Bytes(count) = answering::answer_text(&text[..read], &mut reply) {
+    if let Ok(count) = answering::answer_text(&text[..read], &mut reply) {
         rt.stdout().write_all(&reply[..count])?;
     }
     Ok(())

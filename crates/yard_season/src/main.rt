@@ -8,14 +8,13 @@
 
 ghost use Rattle.std.specs.Prelude.{◌≤◌};
 
-use output::Wrote;
 use std::io::{self, Write};
 
 // Reads standard input into lent memory and prints the answer.
 fn answer_input(rt: &HostRuntime, text: &mut [u8]) -> io::Result<()> {
     let read = streams::read_full(&mut rt.stdin(), text)?;
     let mut reply = [0u8; period_answering::REPORT_BYTES];
-    if let Wrote::Bytes(count) = period_answering::answer_period(&text[..read], &mut reply) {
+    if let Ok(count) = period_answering::answer_period(&text[..read], &mut reply) {
         rt.stdout().write_all(&reply[..count])?;
     }
     Ok(())

@@ -25,8 +25,8 @@ put_plan-requires c =
     let enough : T (begins day_limits (yard c.args.day) 4096 32768 12) = areas_suffice_lem (yard c.args.day) 12 c.requires.0 (sound_is day_limits (yard c.args.day) c.requires.0).trains.1 in
     let row_left : let y = yard c.args.day in (row : List ℕ) × (c.plan.new.row ≡ placed (best_of y) row) = (_, c.plan.ensures.row_after ∙ row-begun day_limits (yard c.args.day) 4096 32768 _ enough) in
     let best-said : let y = yard c.args.day in answer c.plan.result ≡ best_answer y (best_of y) = c.plan.ensures.result_value ∙ planned-begun day_limits (yard c.args.day) 4096 32768 12 enough in
-    let plan-said : let y = yard c.args.day in gives (outcome_of c.in-Plan.value) ≡ best_answer y (best_of y) = sym (ap answer c.in-Plan.is) ∙ best-said in
-    let lines : List ℕ → List ℕ = let day = c.args.day in plan_lines day.trains day.numbers (outcome_of c.in-Plan.value) in
+    let plan-said : let y = yard c.args.day in gives (outcome_of c.in-Ok.value) ≡ best_answer y (best_of y) = sym (ap answer c.in-Ok.is) ∙ best-said in
+    let lines : List ℕ → List ℕ = let day = c.args.day in plan_lines day.trains day.numbers (outcome_of c.in-Ok.value) in
     let lines_fit : length (lines c.plan.new.row) ≤ plan_bytes =
     let y = yard c.args.day in
     omega (arith, ap (λ r. length (lines r)) row_left.1, plan_fits y (best_of y) (best-allowed y) row_left.0 plan-said plan_bytes (best_size y c.requires.0)) in
@@ -35,19 +35,19 @@ put_plan-requires c =
       row_in_bounds = omega (arith, lines_fit, c.requires.1);
     }
 
-pub returns-in-Refused : goal.returns-in-Refused
-returns-in-Refused c =
+pub returns-in-Err : goal.returns-in-Err
+returns-in-Err c =
     let enough : T (begins day_limits (yard c.args.day) 4096 32768 12) = areas_suffice_lem (yard c.args.day) 12 c.requires.0 (sound_is day_limits (yard c.args.day) c.requires.0).trains.1 in
     let best-said : let y = yard c.args.day in answer c.plan.result ≡ best_answer y (best_of y) = c.plan.ensures.result_value ∙ planned-begun day_limits (yard c.args.day) 4096 32768 12 enough in
-    rw (← refused_reply (yard c.args.day) (best_of (yard c.args.day)) c.in-Refused.refusal (sym (ap answer c.in-Refused.is) ∙ best-said)) (fits_most plan_bytes (omega arith) c.put_refusal.ensures)
+    rw (← refused_reply (yard c.args.day) (best_of (yard c.args.day)) c.in-Err.refusal (sym (ap answer c.in-Err.is) ∙ best-said)) (fits_most plan_bytes (omega arith) c.put_refusal.ensures)
 
-pub returns-in-Plan : goal.returns-in-Plan
-returns-in-Plan c =
+pub returns-in-Ok : goal.returns-in-Ok
+returns-in-Ok c =
     let enough : T (begins day_limits (yard c.args.day) 4096 32768 12) = areas_suffice_lem (yard c.args.day) 12 c.requires.0 (sound_is day_limits (yard c.args.day) c.requires.0).trains.1 in
     let row_left : let y = yard c.args.day in (row : List ℕ) × (c.plan.new.row ≡ placed (best_of y) row) = (_, c.plan.ensures.row_after ∙ row-begun day_limits (yard c.args.day) 4096 32768 _ enough) in
     let best-said : let y = yard c.args.day in answer c.plan.result ≡ best_answer y (best_of y) = c.plan.ensures.result_value ∙ planned-begun day_limits (yard c.args.day) 4096 32768 12 enough in
-    let plan-said : let y = yard c.args.day in gives (outcome_of c.in-Plan.value) ≡ best_answer y (best_of y) = sym (ap answer c.in-Plan.is) ∙ best-said in
-    let lines : List ℕ → List ℕ = let day = c.args.day in plan_lines day.trains day.numbers (outcome_of c.in-Plan.value) in
+    let plan-said : let y = yard c.args.day in gives (outcome_of c.in-Ok.value) ≡ best_answer y (best_of y) = sym (ap answer c.in-Ok.is) ∙ best-said in
+    let lines : List ℕ → List ℕ = let day = c.args.day in plan_lines day.trains day.numbers (outcome_of c.in-Ok.value) in
     let lines_are : let y = yard c.args.day in lines c.plan.new.row ≡ day_reply y (best_of y) =
     let y = yard c.args.day in
     ap lines row_left.1 ∙ plan_reply y (best_of y) (best-allowed y) row_left.0 plan-said in

@@ -1,6 +1,5 @@
 -- `barring::bar_groups` meets its contract. The loop's invariant: the sets that part a group of a position passed are barred.
-use Prim.Native.Nat.{◌-◌, ◌≤◌}
-use mathlib.Core.Bool.{cond}
+use Rattle.std.proofs.Common.{cond}
 use Rattle.optimum.specs.Workspace.{at}
 use Rattle.staging.specs.Tables.{barred}
 use Rattle.tables.specs.Filled.{Filled}
@@ -8,7 +7,4 @@ use Rattle.barring.specs.Laws.{whole}
 use Rattle.barring.proofs.bar_groups.Given as goal
 
 abbrev pub invariant-loop-i : goal.invariant-loop-i
-invariant-loop-i l = (l.i ≤ l.n) × Filled (λ s. cond (whole l.i l.n l.groups s) (at l.initial.price s) barred) l.size l.initial.price l.price
-
-abbrev pub decreases-loop-i : goal.decreases-loop-i
-decreases-loop-i l = l.n - l.i
+invariant-loop-i l = Filled (λ s. cond (whole l.i l.n l.groups s) (at l.fn.price s) barred) l.size l.fn.price l.price

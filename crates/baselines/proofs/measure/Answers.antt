@@ -14,15 +14,15 @@ use Rattle.baselines.proofs.measure.Goals as goal
 
 pub compare_with-requires : goal.compare_with-requires
 compare_with-requires c =
-    let found : let a = c.args in planned day_limits (yard a.day) (length a.cost.now) (length a.choice.now) a.day.trains ≡ gives (outcome_of c.in-Plan.best) = sym c.plan_cost.ensures.result_value ∙ ap plan_answer c.in-Plan.is in
+    let found : let a = c.args in planned day_limits (yard a.day) (length a.cost.now) (length a.choice.now) a.day.trains ≡ gives (outcome_of c.in-Ok.best) = sym c.plan_cost.ensures.result_value ∙ ap plan_answer c.in-Ok.is in
     let a = c.args in
     let y = yard a.day in
     let p = from_best day_limits y (length a.cost.now) (length a.choice.now) y.trains _ found in
     (p.is_sound, cost_fits y p.row p.is_sound p.numbers)
 
-pub returns-in-Plan : goal.returns-in-Plan
-returns-in-Plan c =
-    let found : let a = c.args in planned day_limits (yard a.day) (length a.cost.now) (length a.choice.now) a.day.trains ≡ gives (outcome_of c.in-Plan.best) = sym c.plan_cost.ensures.result_value ∙ ap plan_answer c.in-Plan.is in
+pub returns-in-Ok : goal.returns-in-Ok
+returns-in-Ok c =
+    let found : let a = c.args in planned day_limits (yard a.day) (length a.cost.now) (length a.choice.now) a.day.trains ≡ gives (outcome_of c.in-Ok.best) = sym c.plan_cost.ensures.result_value ∙ ap plan_answer c.in-Ok.is in
     let a = c.args in
     let y = yard a.day in
     let s = says_against day_limits y (row_by a.procedure y) (length a.cost.now) (length a.choice.now) found c.compare_with.ensures in
@@ -33,9 +33,9 @@ returns-in-Plan c =
       stays_2 = c.plan_cost.ensures.stays_2;
     }
 
-pub returns-in-Refused : goal.returns-in-Refused
-returns-in-Refused c =
-    let not_found : let a = c.args in planned day_limits (yard a.day) (length a.cost.now) (length a.choice.now) a.day.trains ≡ refusal c.in-Refused.refusal = sym c.plan_cost.ensures.result_value ∙ ap plan_answer c.in-Refused.is in
+pub returns-in-Err : goal.returns-in-Err
+returns-in-Err c =
+    let not_found : let a = c.args in planned day_limits (yard a.day) (length a.cost.now) (length a.choice.now) a.day.trains ≡ refusal c.in-Err.refusal = sym c.plan_cost.ensures.result_value ∙ ap plan_answer c.in-Err.is in
     let a = c.args in
     let y = yard a.day in
     let s = says_refused day_limits y (row_by a.procedure y) (length a.cost.now) (length a.choice.now) not_found c.refused.ensures in

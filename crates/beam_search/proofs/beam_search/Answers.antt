@@ -4,4 +4,4 @@ use Rattle.beam_search.proofs.beam_search.Goals as goal
 
 pub returns : goal.returns
 returns c =
-    searched c.requires c.search-found.result.full c.fill_ends.ensures c.search-found.ensures.0 c.read_row.ensures
+    searched _ _ _ _ _ c.requires c.search-found.result.full c.fill_ends.ensures c.search-found.ensures c.read_row.ensures

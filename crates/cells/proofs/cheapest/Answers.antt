@@ -8,7 +8,8 @@ use Rattle.sets.specs.Rest.{meet_left}
 use Rattle.optimum.specs.Workspace.{at}
 use Rattle.optimum.specs.Tried.{Tried}
 use Rattle.optimum.proofs.Tried.{tried_take, tried_skip, tried_is, tried_next, tried_raise, tried_meet}
-use Rattle.staging.specs.Tables.{Tables, tables_of, keys_below, barred, no_cost, from_tables, cost_from_tables, set_key_from_tables}
+use Rattle.staging.specs.Tables.{Tables, keys_below, barred, no_cost, from_tables, cost_from_tables, set_key_from_tables}
+use Rattle.cells.specs.Lent.{lent}
 use Rattle.cells.specs.Laws.{may_serve_lem, serve_open, serve_priced, key_waits, found_low}
 use Rattle.cells.proofs.cheapest.Goals as goal
 use Rattle.cells.proofs.cheapest.Goals.{After-late_set-revisiting, After-slot_cost, At-loop-rest, Joined-splits-lt-BARRED, then-splits-lt-BARRED+then-after-lt-NONE+then-total-least+then-key-least, then-splits-lt-BARRED+then-after-lt-NONE+then-total-least+else-key-least, then-splits-lt-BARRED+then-after-lt-NONE+else-total-least, then-splits-lt-BARRED+else-after-lt-NONE, else-splits-lt-BARRED}
@@ -16,32 +17,32 @@ use Rattle.cells.proofs.cheapest.Goals.{After-late_set-revisiting, After-slot_co
 -- ---- what holds in a turn of the loop
 
 abbrev given : At-loop-rest → Tables
-given a = let z = a.args in tables_of z.need.now z.late.now z.price.now z.count.now z.opens.now
+given a = let z = a.args in lent z.tables.now
 
 -- the trains of r whose windows hold the slot
 abbrev ready : At-loop-rest → ℕ
-ready a = bit_and a.args.r (at a.args.opens.now a.args.j)
+ready a = bit_and a.args.r (at a.args.tables.now.opens.now a.args.j)
 
 module _ (a : At-loop-rest) where
   in-r : a.loop-rest.s ≤ a.args.r
-  in-r = omega (arith, sub_le a.loop-rest.s (ready a) a.loop-rest.invariant.0, and_le_l a.args.r (at a.args.opens.now a.args.j))
+  in-r = omega (arith, sub_le a.loop-rest.s (ready a) a.loop-rest.invariant.0, and_le_l a.args.r (at a.args.tables.now.opens.now a.args.j))
 
   of-r : Sub a.loop-rest.s a.args.r
-  of-r = sub_trans a.loop-rest.s (ready a) a.args.r a.loop-rest.invariant.0 (meet_left a.args.r (at a.args.opens.now a.args.j))
+  of-r = sub_trans a.loop-rest.s (ready a) a.args.r a.loop-rest.invariant.0 (meet_left a.args.r (at a.args.tables.now.opens.now a.args.j))
 
   few-sets : a.args.r < 4096
   few-sets = omega (arith, a.requires.0.sets.1)
 
   -- the windows of s hold the slot: only its price decides whether it may be served
-  may : at a.args.price.now a.loop-rest.s < barred
+  may : at a.args.tables.now.price.now a.loop-rest.s < barred
       → T (from_tables (given a) (suc a.args.j) a.args.r a.loop-rest.s)
   may l =
       let z = a.args in
-      let o = at z.opens.now z.j in
+      let o = at z.tables.now.opens.now z.j in
       may_serve_lem (given a) z.j z.r a.loop-rest.s l (sub_trans a.loop-rest.s (ready a) o a.loop-rest.invariant.0 (sub_and z.r o))
 
   -- then its cost fits 32 bits
-  fits : at a.args.price.now a.loop-rest.s < barred
+  fits : at a.args.tables.now.price.now a.loop-rest.s < barred
       → cost_from_tables (given a) (suc a.args.j) a.args.r a.loop-rest.s < 2 ^ 32
   fits l = a.requires.0.fits (suc a.args.j) a.args.r a.loop-rest.s (omega arith) of-r l
 
@@ -49,7 +50,7 @@ module _ (a : At-loop-rest) where
 within : (c : After-late_set-revisiting) → c.late_set-revisiting.result ≤ c.loop-rest.s
 within c =
     let z = c.args in
-    omega (arith, c.late_set-revisiting.ensures, and_le_l c.loop-rest.s (at z.need.now (z.r - c.loop-rest.s)))
+    omega (arith, c.late_set-revisiting.ensures, and_le_l c.loop-rest.s (at z.tables.now.need.now (z.r - c.loop-rest.s)))
 
 -- what the slot costs, and what it leaves
 module _ (c : After-slot_cost) where
@@ -57,12 +58,12 @@ module _ (c : After-slot_cost) where
   turn = (goal.at.After-slot_cost c).At-loop-rest
 
   cost_fits : c.slot_cost.result < 2 ^ 32
-  cost_fits = omega (arith, c.slot_cost.ensures, ap (at c.args.late.now) c.late_set-revisiting.ensures, fits turn c.if-splits-lt-BARRED.true)
+  cost_fits = omega (arith, c.slot_cost.ensures, ap (at c.args.tables.now.late.now) c.late_set-revisiting.ensures, fits turn c.if-splits-lt-BARRED.true)
 
   rest-low : at c.args.cost.now (c.args.r - c.loop-rest.s) ≤ 8 * keys_below
   rest-low = c.requires.1.low c.loop-rest.s (of-r turn) (may turn c.if-splits-lt-BARRED.true) c.if-after-lt-NONE.true
 
-  few-revisit : at c.args.count.now c.late_set-revisiting.result ≤ 12
+  few-revisit : at c.args.tables.now.count.now c.late_set-revisiting.result ≤ 12
   few-revisit =
       c.requires.0.few c.late_set-revisiting.result (omega (arith, within (goal.at.After-slot_cost c).After-late_set-revisiting, in-r turn))
 
@@ -75,8 +76,8 @@ tried c =
     let a : At-loop-rest = (goal.at.Joined-splits-lt-BARRED c).At-loop-rest in
     let inv = a.loop-rest.invariant in
     let z = c.args in
-    let late : ℕ → ℕ = at z.late.now in
-    let count : ℕ → ℕ = at z.count.now in
+    let late : ℕ → ℕ = at z.tables.now.late.now in
+    let count : ℕ → ℕ = at z.tables.now.count.now in
     elim c.if-splits-lt-BARRED.branch [
       | then-splits-lt-BARRED+then-after-lt-NONE+then-total-least+then-key-least x ↦
           tried_is
@@ -93,10 +94,10 @@ tried c =
     ]
 
 -- what was found stays low with the trains that wait
-raises : (c : Joined-splits-lt-BARRED) → let z = c.args in c.if-splits-lt-BARRED.least < no_cost → c.if-splits-lt-BARRED.least + at z.count.now z.r < no_cost
+raises : (c : Joined-splits-lt-BARRED) → let z = c.args in c.if-splits-lt-BARRED.least < no_cost → c.if-splits-lt-BARRED.least + at z.tables.now.count.now z.r < no_cost
 raises c =
     let z = c.args in
-    found_low c.requires.0 c.requires.1 (omega arith) (meet_left z.r (at z.opens.now z.j)) (tried c)
+    found_low c.requires.0 c.requires.1 (omega arith) (meet_left z.r (at z.tables.now.opens.now z.j)) (tried c)
 
 -- ---- the goals
 
@@ -106,7 +107,7 @@ slot_cost-requires c =
     let w = within (goal.at.slot_cost-requires c).After-late_set-revisiting in (
       omega (arith, w, in-r a, few-sets a),
       omega (arith, w, in-r a, c.requires.0.lates),
-      omega (arith, ap (at c.args.late.now) c.late_set-revisiting.ensures, fits a c.if-splits-lt-BARRED.true),
+      omega (arith, ap (at c.args.tables.now.late.now) c.late_set-revisiting.ensures, fits a c.if-splits-lt-BARRED.true),
     )
 
 pub overflow_add-total : goal.overflow_add-total
@@ -123,7 +124,7 @@ returns-then-s-eq0 c =
     let end = (goal.at.returns-then-s-eq0 c).Joined-splits-lt-BARRED in
     let a : At-loop-rest = (goal.at.returns-then-s-eq0 c).At-loop-rest in
     let z = c.args in
-    let (v, u) = tried_meet (at z.opens.now z.j) (tried_raise (at z.count.now z.r) (tried end) (λ u. key_waits (given a) (suc z.j) z.r u) (raises end))
+    let (v, u) = tried_meet (at z.tables.now.opens.now z.j) (tried_raise (at z.tables.now.count.now z.r) (tried end) (λ u. key_waits (given a) (suc z.j) z.r u) (raises end))
     c.if-s-eq0.true refl (λ u k. serve_open (given a) z.j z.r u k) in
     (c.with_waiting.ensures ∙ v, u)
 

@@ -5,13 +5,14 @@ use Prim.Native.Nat.{suc}
 use Rattle.sets.specs.Subset.{Sub}
 use Rattle.optimum.specs.Workspace.{at}
 use Rattle.optimum.specs.Tried.{Tried}
-use Rattle.staging.specs.Tables.{tables_of, no_cost, from_tables, set_key_from_tables}
+use Rattle.staging.specs.Tables.{no_cost, from_tables, set_key_from_tables}
+use Rattle.cells.specs.Lent.{lent}
 use Rattle.cells.proofs.cheapest.Given as goal
 
 abbrev pub invariant-loop-rest : goal.invariant-loop-rest
 invariant-loop-rest l =
     Sub l.s l.ready
-    × Tried (from_tables (tables_of l.need l.late l.price l.count l.opens)) (set_key_from_tables (tables_of l.need l.late l.price l.count l.opens)) no_cost (at l.cost) (suc l.j) l.r l.ready (suc l.s)
+    × Tried (from_tables (lent l.tables)) (set_key_from_tables (lent l.tables)) no_cost (at l.cost) (suc l.j) l.r l.ready (suc l.s)
     l.least
     l.chosen
 

@@ -1,23 +1,18 @@
-use mathlib.Core.Path.{sym, ◌∙◌}
-use borrow.Author.Rules.{rules}
-use native.Mathlib.Omega.{arith}
-use Rattle.fold.specs.Fold.{sum, sum_none, sum-next, at_end}
+-- `counting::count_direct` meets its contract: a sum over the trains.
+use Rattle.std.proofs.Common.{arith, rules}
+use Rattle.fold.proofs.Ranges.{front_sum_gives, front_sum_fits}
 use Rattle.model.specs.Model.{cell, direct_to, direct}
+use Rattle.counting.proofs.Bounds.{all_direct}
 use Rattle.counting.proofs.count_direct.Goals as goal
 
-pub loop-i-init : goal.loop-i-init
-loop-i-init c = (search rules, sym (sum_none _), search rules)
-
-pub loop-i-preserved : goal.loop-i-preserved
-loop-i-preserved c =
-    let l = c in
-    let a = l.args in
-    let next = sum-next l.loop-i.i (direct_to a.n (cell a.width a.boxes.now) a.row.now) in
-    omega (arith, next, c.direct_to-total.ensures.0)
+pub sum-requires-clause-fits : goal.sum-requires-clause-fits
+sum-requires-clause-fits c =
+    let a = c.args in
+    front_sum_fits _ (direct_to a.n (cell a.width a.boxes.now) a.row.now) a.n c.map.result c.map.ensures.source c.map.ensures.closure (λ x r q k. search rules) _
+    (omega (arith, c.requires.few, all_direct a.width a.boxes.now c.type_inv.boxes a.row.now a.n c.requires.few))
 
 pub returns : goal.returns
 unfolding direct
 returns c =
     let a = c.args in
-    let l = c.loop-i in
-    l.invariant.1 ∙ at_end (λ k. sum k (direct_to a.n (cell a.width a.boxes.now) a.row.now)) l.i a.n l.invariant.0 c.loop-i-test.false
+    front_sum_gives _ (direct_to a.n (cell a.width a.boxes.now) a.row.now) a.n c.map.result c.map.ensures.source c.map.ensures.closure (λ x r q k. search rules) c.sum.result c.sum.ensures.ran

@@ -1,6 +1,5 @@
 use mathlib.Core.Bool.{and-true}
 use Rattle.day.specs.Sound.{within, group_ranges}
-use borrow.Author.Rules.{rules}
 use Rattle.day.proofs.group_within.Goals as goal
 
 pub returns : goal.returns

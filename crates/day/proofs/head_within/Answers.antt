@@ -1,6 +1,5 @@
 use mathlib.Core.Bool.{and_assoc, and-true}
 use Rattle.day.specs.Sound.{within, head_ranges}
-use borrow.Author.Rules.{rules}
 use Rattle.day.proofs.head_within.Goals as goal
 
 pub returns : goal.returns

@@ -1,16 +1,13 @@
 -- `day_edits::slots_without` meets its contract.
-use Prim.Native.Nat.{◌-◌}
-use mathlib.Core.Path.{◌∙◌}
-use native.Mathlib.Omega.{arith}
+use Rattle.std.proofs.Common.{◌-◌, ◌∙◌, arith}
 use Rattle.rolling.specs.Rolling.{source_without}
-use Rattle.day_edits.specs.Sources.{moved_as, without_sources}
+use Rattle.day_edits.proofs.Laws.{moved_as, without_in_day}
 use Rattle.day_edits.proofs.slots_without.Goals as goal
 
-pub moved_slots-requires : goal.moved_slots-requires
-moved_slots-requires c = let s = c in without_sources s.args.n s.args.p c.sources_without.ensures s.requires.0 s.requires.1
+pub moved-requires : goal.moved-requires
+moved-requires c = let of = c.sources_without.ensures in (omega arith, without_in_day _ c.args.n c.args.p of.trains of.of c.requires.0 c.requires.1)
 
 pub returns : goal.returns
 returns c =
-    let s = c in
-    let z = s.args in
-    c.moved_slots.ensures ∙ moved_as (source_without z.p) (z.n - 1) c.sources_without.ensures (omega (arith, s.requires.1)) 12 z.slots
+    let of = c.sources_without.ensures in
+    c.moved.ensures ∙ moved_as _ (source_without c.args.p) (c.args.n - 1) of.trains of.of (omega arith) 12 c.args.slots

@@ -1,9 +1,8 @@
-use borrow.Author.Rules.{rules}
-use Rattle.fold.specs.Column.{column_none, column_fill}
+-- `day_edits::sources_without` meets its contract: position by position.
+use Rattle.std.proofs.Common.{rules}
+use Rattle.fold.proofs.Filled.{made_whole}
+use Rattle.rolling.specs.Rolling.{source_without}
 use Rattle.day_edits.proofs.sources_without.Goals as goal
 
-pub loop-i-init : goal.loop-i-init
-loop-i-init c = (search rules, column_none 12 _)
-
-pub loop-i-preserved : goal.loop-i-preserved
-loop-i-preserved c = (search rules, column_fill 12 _ _ _ c.loop-i.invariant.1 c.loop-i-test.true c.source_without.ensures)
+pub returns-clause-of : goal.returns-clause-of
+returns-clause-of c = made_whole _ _ (source_without c.args.p) (λ x r q k. search rules) 0 c.from_fn.result 12 c.from_fn.ensures.items

@@ -25,17 +25,17 @@ compare_with-baseline-requires c =
 pub overflow_sub-result : goal.overflow_sub-result
 overflow_sub-result c =
     let given : let y = yard c.args.day in compared day_limits y (first_come y) cost_area choice_area ≡ gives (comparison_of c.compare_with-baseline.result) = let w = c.compare_with-baseline in
-    first_against day_limits (yard c.args.day) c.requires ∙ sym w.ensures.says ∙ ap (λ v. judged v (comparison_of w.result)) c.in-Accepted.is in
+    first_against day_limits (yard c.args.day) c.requires ∙ sym w.ensures.says ∙ ap (λ v. judged v (comparison_of w.result)) c.in-Ok.is in
     saved_covers day_limits (yard c.args.day) c.requires (comparison_of c.compare_with-baseline.result) given
 
-pub returns-in-Accepted : goal.returns-in-Accepted
-returns-in-Accepted c =
+pub returns-in-Ok : goal.returns-in-Ok
+returns-in-Ok c =
     let given : let y = yard c.args.day in compared day_limits y (first_come y) cost_area choice_area ≡ gives (comparison_of c.compare_with-baseline.result) = let w = c.compare_with-baseline in
-    first_against day_limits (yard c.args.day) c.requires ∙ sym w.ensures.says ∙ ap (λ v. judged v (comparison_of w.result)) c.in-Accepted.is in
+    first_against day_limits (yard c.args.day) c.requires ∙ sym w.ensures.says ∙ ap (λ v. judged v (comparison_of w.result)) c.in-Ok.is in
     sym (ap (saved (outcome_of c.args.best)) given)
 
-pub returns-in-Refused : goal.returns-in-Refused
-returns-in-Refused c =
+pub returns-in-Err : goal.returns-in-Err
+returns-in-Err c =
     let w = c.compare_with-baseline in
     sym (ap (saved (outcome_of c.args.best))
-    (first_against day_limits (yard c.args.day) c.requires ∙ sym w.ensures.says ∙ ap (λ v. judged v (comparison_of w.result)) c.in-Refused.is))
+    (first_against day_limits (yard c.args.day) c.requires ∙ sym w.ensures.says ∙ ap (λ v. judged v (comparison_of w.result)) c.in-Err.is))

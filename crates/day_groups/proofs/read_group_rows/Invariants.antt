@@ -1,12 +1,10 @@
--- `day_groups::read_group_rows` meets its contract. The invariant is `GroupsSoFar`: the rows so far are stored, the reading goes on at p.
-use mathlib.Core.Path.{◌≡◌}
-use Prim.Native.Nat.{◌-◌}
-use lib.ListN.{length, take}
+-- The invariant is `GroupsSoFar`: the rows so far are stored, the reading goes on at p.
+use Rattle.std.proofs.Common.{◌≡◌, ◌-◌, length}
 use Rattle.day_groups.specs.Groups.{GroupsSoFar}
 use Rattle.day_groups.proofs.read_group_rows.Given as goal
 
-abbrev pub invariant-loop-a : goal.invariant-loop-a
-invariant-loop-a l = GroupsSoFar l.l (take l.n l.numbers) l.start l.at l.text l.initial.groups l.groups l.p l.line l.group l.train × (length l.groups ≡ l.l.trains)
+abbrev pub invariant-loop-row : goal.invariant-loop-row
+invariant-loop-row l = GroupsSoFar l.l l.numbers l.fn.start.line l.fn.start.at l.text l.initial.groups l.groups l.place.at l.place.line l.before.0 l.before.1 × (length l.groups ≡ l.l.trains)
 
-abbrev pub decreases-loop-a : goal.decreases-loop-a
-decreases-loop-a l = length l.text - l.p
+abbrev pub decreases-loop-row : goal.decreases-loop-row
+decreases-loop-row l = length l.text - l.place.at

@@ -1,13 +1,12 @@
 -- A section is its names line, then its rows.
-use native.Mathlib.Omega.{arith}
 use Rattle.dayfile.specs.Reading.{move_names}
-use Rattle.day_rows.specs.Joined.{section_stops}
+use Rattle.day_rows.specs.Joined.{section_stops, handed_up}
 use Rattle.day_moves.proofs.read_moves.Goals as goal
 
-pub returns-in-Next : goal.returns-in-Next
+pub returns-in_err-read_names : goal.returns-in_err-read_names
 unfolding move_names
-returns-in-Next c = rw c.in-Next.ensures.0 c.read_move_rows.ensures
+returns-in_err-read_names c = rw (handed_up _ _ c.from_residual.ensures.1) (section_stops _ _ c.in_err-read_names.field-0.0 c.in_err-read_names.ensures)
 
-pub returns-in-Refused : goal.returns-in-Refused
+pub returns : goal.returns
 unfolding move_names
-returns-in-Refused c = section_stops _ _ c.in-Refused.refusal c.in-Refused.ensures
+returns c = rw c.in_ok-read_names.ensures.0 c.read_move_rows.ensures

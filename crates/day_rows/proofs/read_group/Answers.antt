@@ -1,65 +1,60 @@
--- A row that the line reader found goes on to its checks, and the first that fails decides; the end or a refusal is handed up.
-use mathlib.Core.Path.{◌≡◌, sym, ap₂, ◌∙◌}
-use mathlib.Core.Bool.{Bool, ◌&&◌}
-use mathlib.Core.List.{List, [], ◌∷◌}
-use Prim.Native.Nat.{ℕ}
-use lib.Dec.{eqb, ltb}
-use lib.ListN.{length, get_or, take, drop}
-use lib.Seq.{length-take-le}
+-- A row that the line reader found goes on to its checks, and the first that fails decides.
+use Rattle.std.proofs.Common.{[], ◌∷◌, ◌≡◌, true, false, not, Bool, ◌&&◌, ℕ, List, eqb, get_or, drop, sym, ap, ◌∙◌}
+use Rattle.day.specs.declared.Limits.{Limits}
 use Rattle.lines.specs.Lines.{row}
-use Rattle.lines.specs.Reader.{found}
+use Rattle.lines.specs.Reader.{found, RowAt}
 use Rattle.lines.specs.declared.Due.TheVariants.{PairOrEnd}
-use Rattle.dayfile.specs.Reading.{position, is_listed, group_checks, is_end}
-use Rattle.day_rows.specs.Members.{free_both}
-use Rattle.day_rows.specs.Steps.{check_passed, check_fails, all_passed, two_checks, row_at, group_found}
-use Rattle.day_rows.proofs.Tags.{end_handed}
+use Rattle.dayfile.specs.Reading.{position, is_listed, read_row, group_checks, is_end}
+use Rattle.day_rows.specs.Members.{Marks, free_both}
+use Rattle.day_rows.specs.Steps.{ToChecks, check_passed, check_fails, all_passed, two_checks, row_at, group_found}
+use Rattle.day_rows.proofs.Lines.{pair_later}
+use Rattle.day_rows.specs.Located.{listed, unlisted}
 use Rattle.day_rows.proofs.read_group.Goals as goal
 
--- listed and in no group, by the column at the train's position
-free : (groups numbers : List ℕ) {i n : ℕ} {b : Bool} (x : ℕ) → b ≡ (ltb i n && eqb (get_or groups i 0) 0) → i ≡ position numbers x → length numbers ≡ n
-    → b ≡ (is_listed numbers x && eqb (get_or groups (position numbers x) 0) 0)
-free groups numbers x is there count = cc
+-- a row there goes on to the checks of a group's row
+member_read : (l : Limits) (numbers taken before : List ℕ) (line : ℕ) (t s : List ℕ) {a b c d e next : ℕ} → RowAt t (found PairOrEnd [] line s) a b c d e next
+    → ToChecks t (group_checks l numbers taken before line (a ∷ b ∷ [])) (read_row 1 line (group_checks l numbers taken before line) s) (a ∷ b ∷ []) next
+    × (is_end s ≡ false)
+member_read l numbers taken before line t s h =
+    let f = row_at t (is_end s) line (row 1 s) _ (group_found line [] s) h in
+    (two_checks t line (group_checks l numbers taken before line) s f.0, f.1)
 
-pub returns-in_default : goal.returns-in_default
-returns-in_default c taken marks =
-    let a = c.args in
-    let s = drop a.at a.text.now in
-    end_handed a.text.now 1 a.line (group_checks a.l (take a.n a.numbers.now) taken (a.group0 ∷ a.train0 ∷ []) a.line) s (is_end s) _ c.read_line-row.result c.in_default.not-Row (group_found a.line [] s) c.read_line-row.ensures
+-- of a listed train the column says whether it is in a group
+is_free : {numbers groups taken : List ℕ} → Marks numbers groups taken → (x i : ℕ) → is_listed numbers x ≡ true → i ≡ position numbers x → (later : Bool)
+    → (is_listed numbers x && not (is_listed taken x) && later) ≡ (eqb (get_or groups i 0) 0 && later)
+is_free {numbers} {groups} {taken} marks x i there is later =
+    let both : (is_listed numbers x && eqb (get_or groups (position numbers x) 0) 0) ≡ (is_listed numbers x && not (is_listed taken x)) = free_both marks x in
+    ap (λ b. b && later) (sym both ∙ rw (there, is))
 
 pub returns-then-not-group_within : goal.returns-then-not-group_within
 returns-then-not-group_within c taken marks =
     let a = c.args in
-    let s = drop a.at a.text.now in
-    let ns = take a.n a.numbers.now in
-    let r = c.in-Row in
-    let f = row_at a.text.now (is_end s) a.line (row 1 s) (found PairOrEnd [] a.line s) (group_found a.line [] s) r.ensures in
-    let read = two_checks _ _ (group_checks a.l ns taken (a.group0 ∷ a.train0 ∷ []) a.line) _ f.0 in
-    (check_fails read (sym c.group_within.ensures ∙ c.if-not-group_within.true), f.1)
+    let (read, more) = member_read a.l a.numbers.now taken (a.before.0 ∷ a.before.1 ∷ []) a.place.line a.text.now (drop a.place.at a.text.now) (rw c.in-Row.is at c.in_ok-group.ensures) in
+    (check_fails read (sym c.group_within.ensures ∙ c.if-not-group_within.true), more)
 
-pub returns-then-not-free-is_pair_after : goal.returns-then-not-free-is_pair_after
-returns-then-not-free-is_pair_after c taken marks =
+pub returns-in_default-position_of : goal.returns-in_default-position_of
+returns-in_default-position_of c taken marks =
     let a = c.args in
-    let s = drop a.at a.text.now in
-    let ns = take a.n a.numbers.now in
-    let r = c.in-Row in
-    let f = row_at a.text.now (is_end s) a.line (row 1 s) (found PairOrEnd [] a.line s) (group_found a.line [] s) r.ensures in
-    let read = two_checks _ _ (group_checks a.l ns taken (a.group0 ∷ a.train0 ∷ []) a.line) _ f.0 in
+    let (read, more) = member_read a.l a.numbers.now taken (a.before.0 ∷ a.before.1 ∷ []) a.place.line a.text.now (drop a.place.at a.text.now) (rw c.in-Row.is at c.in_ok-group.ensures) in
     let kept = check_passed read (sym c.group_within.ensures ∙ c.if-not-group_within.false) in
-    let count = length-take-le a.n a.numbers.now c.requires.0 in
-    let one = free a.groups.now ns r.train c.is_free-free.ensures c.position_of-i.ensures.0 count ∙ free_both marks r.train in
-    let same = ap₂ ◌&&◌ one c.is_pair_after.ensures in
-    (check_fails kept (sym same ∙ c.if-not-free-is_pair_after.true), f.1)
+    (check_fails kept (rw (unlisted a.numbers.now c.in-Row.train c.in_default-position_of.ensures)), more)
+
+pub returns-then-not-is_free-is_later : goal.returns-then-not-is_free-is_later
+returns-then-not-is_free-is_later c taken marks =
+    let a = c.args in
+    let (read, more) = member_read a.l a.numbers.now taken (a.before.0 ∷ a.before.1 ∷ []) a.place.line a.text.now (drop a.place.at a.text.now) (rw c.in-Row.is at c.in_ok-group.ensures) in
+    let kept = check_passed read (sym c.group_within.ensures ∙ c.if-not-group_within.false) in
+    let there = listed a.numbers.now c.in-Row.train c.in-Some.i c.in-Some.ensures in
+    let same = is_free marks c.in-Row.train c.in-Some.i there.0 there.1 c.lt-is_later.result in
+    let later = c.lt-is_later.ensures ∙ pair_later a.before.0 a.before.1 _ _ in
+    (check_fails kept (rw (← later) (same ∙ c.if-not-is_free-is_later.true)), more)
 
 pub returns : goal.returns
 returns c taken marks =
     let a = c.args in
-    let s = drop a.at a.text.now in
-    let ns = take a.n a.numbers.now in
-    let r = c.in-Row in
-    let f = row_at a.text.now (is_end s) a.line (row 1 s) (found PairOrEnd [] a.line s) (group_found a.line [] s) r.ensures in
-    let read = two_checks _ _ (group_checks a.l ns taken (a.group0 ∷ a.train0 ∷ []) a.line) _ f.0 in
+    let (read, more) = member_read a.l a.numbers.now taken (a.before.0 ∷ a.before.1 ∷ []) a.place.line a.text.now (drop a.place.at a.text.now) (rw c.in-Row.is at c.in_ok-group.ensures) in
     let kept = check_passed read (sym c.group_within.ensures ∙ c.if-not-group_within.false) in
-    let count = length-take-le a.n a.numbers.now c.requires.0 in
-    let one = free a.groups.now ns r.train c.is_free-free.ensures c.position_of-i.ensures.0 count ∙ free_both marks r.train in
-    let same = ap₂ ◌&&◌ one c.is_pair_after.ensures in
-    all_passed (check_passed kept (sym same ∙ c.if-not-free-is_pair_after.false))
+    let there = listed a.numbers.now c.in-Row.train c.in-Some.i c.in-Some.ensures in
+    let same = is_free marks c.in-Row.train c.in-Some.i there.0 there.1 c.lt-is_later.result in
+    let later = c.lt-is_later.ensures ∙ pair_later a.before.0 a.before.1 _ _ in
+    record { row = all_passed (check_passed kept (rw (← later) (same ∙ c.if-not-is_free-is_later.false))); train = there.1 }

@@ -3,10 +3,10 @@ use borrow.Author.Tests.{lt-ltb, le-ltb}
 use Rattle.day.specs.Sound.{group_sound}
 use Rattle.day_sound.proofs.group_sound.Goals as goal
 
-pub returns-then-i-n : goal.returns-then-i-n
+pub returns-then-i-p : goal.returns-then-i-p
 unfolding group_sound
-returns-then-i-n c = rw (lt-ltb _ _ c.if-i-n.true)
+returns-then-i-p c = rw (lt-ltb _ _ c.if-i-p.true)
 
-pub returns-else-i-n : goal.returns-else-i-n
+pub returns-else-i-p : goal.returns-else-i-p
 unfolding group_sound
-returns-else-i-n c = rw (le-ltb _ _ c.if-i-n.false)
+returns-else-i-p c = rw (le-ltb _ _ c.if-i-p.false)

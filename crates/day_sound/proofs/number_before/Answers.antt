@@ -5,5 +5,5 @@ use Rattle.day_sound.proofs.number_before.Goals as goal
 pub returns-then-i-eq0 : goal.returns-then-i-eq0
 returns-then-i-eq0 c = number_first _ _ c.if-i-eq0.true
 
-pub returns : goal.returns
-returns c = number-before _ _ c.if-i-eq0.false
+pub returns-else-i-eq0 : goal.returns-else-i-eq0
+returns-else-i-eq0 c = number-before _ _ c.if-i-eq0.false

@@ -2,10 +2,10 @@
 use Rattle.day.specs.Sound.{pair_sound}
 use Rattle.day_sound.proofs.pair_sound.Goals as goal
 
-pub returns-then-i-n : goal.returns-then-i-n
+pub returns-then-i-p : goal.returns-then-i-p
 unfolding pair_sound
-returns-then-i-n c = rw (c.cell_at-b.ensures, c.if-i-n.true)
+returns-then-i-p c = rw (c.cell_at-boxes.ensures, c.if-i-p.true)
 
-pub returns-else-i-n : goal.returns-else-i-n
+pub returns-else-i-p : goal.returns-else-i-p
 unfolding pair_sound
-returns-else-i-n c = rw (c.cell_at-b.ensures, c.if-i-n.false)
+returns-else-i-p c = rw (c.cell_at-boxes.ensures, c.if-i-p.false)

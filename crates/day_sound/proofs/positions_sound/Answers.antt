@@ -1,13 +1,6 @@
-use mathlib.Core.Path.{sym, ◌∙◌}
-use borrow.Author.Rules.{rules}
-use Rattle.fold.specs.Fold.{each_none, each_next, each_fails}
+use Rattle.std.proofs.Common.{rules}
+use Rattle.fold.proofs.Chains.{all_each}
 use Rattle.day_sound.proofs.positions_sound.Goals as goal
 
-pub loop-i-init : goal.loop-i-init
-loop-i-init c = (search rules, each_none _)
-
-pub returns-then-not-position_sound : goal.returns-then-not-position_sound
-returns-then-not-position_sound c = sym (each_fails _ _ _ (search rules) (sym c.position_sound.ensures ∙ c.if-not-position_sound.true))
-
-pub loop-i-preserved : goal.loop-i-preserved
-loop-i-preserved c = (search rules, each_next _ _ c.loop-i.invariant.1 (sym c.position_sound.ensures ∙ c.if-not-position_sound.false))
+pub returns : goal.returns
+returns c = all_each _ _ _ _ _ c.all.ensures.ran (λ x q k. search rules) (λ x q k. search rules)

@@ -10,17 +10,16 @@ use Rattle.day_text.proofs.put_head.Goals as goal
 pub put_bytes-next-requires : goal.put_bytes-next-requires
 unfolding head_names
 put_bytes-next-requires c =
-    let s = c.args in
+    let s = c.args.head in
     omega (arith, length-append head_names (row_text (s.trains ∷ s.tracks ∷ s.slots ∷ s.revisit ∷ s.split ∷ [])))
 
-pub put_five-requires : goal.put_five-requires
+pub put_row-requires : goal.put_row-requires
 unfolding head_names
-put_five-requires c =
-    let s = c.args in
-    omega (arith, length-append head_names (row_text (s.trains ∷ s.tracks ∷ s.slots ∷ s.revisit ∷ s.split ∷ [])), c.put_bytes-next.ensures.next)
+put_row-requires c =
+    let h = c.args.head in
+    rw (c.from.ensures, c.from-2.ensures, c.from-3.ensures, c.from-4.ensures)
+    (omega (arith, length-append head_names (row_text (h.trains ∷ h.tracks ∷ h.slots ∷ h.revisit ∷ h.split ∷ [])), c.put_bytes-next.ensures.next))
 
 pub returns : goal.returns
 unfolding head_names
-returns c =
-    let s = c.args in
-    put_text {b = row_text (s.trains ∷ s.tracks ∷ s.slots ∷ s.revisit ∷ s.split ∷ [])} c.put_bytes-next.ensures c.put_five.ensures
+returns c = put_text c.put_bytes-next.ensures (rw (c.from.ensures, c.from-2.ensures, c.from-3.ensures, c.from-4.ensures) at c.put_row.ensures)

@@ -12,8 +12,8 @@ use Rattle.day_text.proofs.put_moves.Goals as goal
 pub put_bytes-next-requires : goal.put_bytes-next-requires
 unfolding move_names
 put_bytes-next-requires c =
-    let s = c.args in
-    omega (arith, names_fit move_names (joined (s.width * s.width) (move_text s.numbers.now s.width s.boxes.now)))
+    let p = c.args.p.now in
+    omega (arith, names_fit move_names (joined (p.limits.trains * p.limits.trains) (move_text p.numbers.now p.limits.trains p.boxes.now)))
 
 pub loop-q-init : goal.loop-q-init
 loop-q-init c = (search rules, refl, put_none _)
@@ -21,11 +21,11 @@ loop-q-init c = (search rules, refl, put_none _)
 pub put_move-next-requires : goal.put_move-next-requires
 unfolding move_names
 put_move-next-requires c =
-    let s = c.args in
+    let p = c.args.p.now in
     let l = c.loop-q in
     let h = c.loop-q-test.true in
-    let f = row_fits move_names (move_text s.numbers.now s.width s.boxes.now) l.q (s.width * s.width) h in
-    record { q_bound = (h, search rules, search rules); q_in_bounds = omega (arith, c.put_bytes-next.ensures.next, l.invariant.2.next) }
+    let f = row_fits move_names (move_text p.numbers.now p.limits.trains p.boxes.now) l.q (p.limits.trains * p.limits.trains) h in
+    record { place = (h, search rules, search rules); room = omega (arith, c.put_bytes-next.ensures.next, l.invariant.2.next) }
 
 pub loop-q-preserved : goal.loop-q-preserved
 loop-q-preserved c = (search rules, search rules, put_more _ _ c.loop-q.invariant.2 c.put_move-next.ensures)

@@ -11,23 +11,23 @@ use Rattle.day_text.proofs.put_trains.Goals as goal
 pub put_bytes-next-requires : goal.put_bytes-next-requires
 unfolding train_names
 put_bytes-next-requires c =
-    let s = c.args in
-    omega (arith, names_fit train_names (joined s.n (train_text s.numbers.now s.first.now s.last.now)))
+    let p = c.args.p.now in
+    omega (arith, names_fit train_names (joined p.head.trains (train_text p.numbers.now p.first.now p.last.now)))
 
 pub loop-i-init : goal.loop-i-init
 loop-i-init c = (search rules, refl, put_none _)
 
-pub put_three-next-requires : goal.put_three-next-requires
+pub put_row-next-requires : goal.put_row-next-requires
 unfolding train_names
-put_three-next-requires c =
-    let s = c.args in
+put_row-next-requires c =
+    let p = c.args.p.now in
     let l = c.loop-i in
-    let f = row_fits train_names (train_text s.numbers.now s.first.now s.last.now) l.i s.n c.loop-i-test.true in
-    rw (c.wide8-in-loop-i.ensures.0, c.wide8.ensures.0, c.wide32.ensures.0) (omega (arith, f, c.requires.n_in_bounds_2, c.put_bytes-next.auto.out, c.put_bytes-next.ensures.next, l.invariant.1, l.invariant.2.next))
+    let f = row_fits train_names (train_text p.numbers.now p.first.now p.last.now) l.i p.head.trains c.loop-i-test.true in
+    rw (c.from-in-loop-i-2.ensures, c.from-in-loop-i.ensures, c.from.ensures) (omega (arith, f, c.requires.room, c.put_bytes-next.auto.out, c.put_bytes-next.ensures.next, l.invariant.1, l.invariant.2.next))
 
 pub loop-i-preserved : goal.loop-i-preserved
 loop-i-preserved c =
-    (search rules, search rules, put_more _ _ c.loop-i.invariant.2 (rw (c.wide8-in-loop-i.ensures.0, c.wide8.ensures.0, c.wide32.ensures.0) at c.put_three-next.ensures))
+    (search rules, search rules, put_more _ _ c.loop-i.invariant.2 (rw (c.from-in-loop-i-2.ensures, c.from-in-loop-i.ensures, c.from.ensures) at c.put_row-next.ensures))
 
 pub returns : goal.returns
 unfolding train_names

@@ -8,7 +8,7 @@ use Rattle.day_text.specs.Writes.{train_text}
 use Rattle.day_text.proofs.put_trains.Given as goal
 
 abbrev pub invariant-loop-i : goal.invariant-loop-i
-invariant-loop-i l = (l.i ≤ l.n) × (length l.out ≡ length l.initial.out) × Put l.initial.out l.out l.initial.next l.next (joined l.i (train_text l.numbers l.first l.last))
+invariant-loop-i l = (l.i ≤ l.p.head.trains) × (length l.out ≡ length l.initial.out) × Put l.initial.out l.out l.initial.next l.next (joined l.i (train_text l.p.numbers.now l.p.first.now l.p.last.now))
 
 abbrev pub decreases-loop-i : goal.decreases-loop-i
-decreases-loop-i l = l.n - l.i
+decreases-loop-i l = l.p.head.trains - l.i

@@ -1,12 +1,12 @@
 -- A section is its names line, then its row.
 use Rattle.dayfile.specs.Reading.{head_names}
-use Rattle.day_rows.specs.Joined.{section_stops}
+use Rattle.day_rows.specs.Joined.{section_stops, handed_up}
 use Rattle.day_trains.proofs.read_head.Goals as goal
 
-pub returns-in-Next : goal.returns-in-Next
+pub returns-in_err-next : goal.returns-in_err-next
 unfolding head_names
-returns-in-Next c = rw c.in-Next.ensures.0 c.read_head_row.ensures
+returns-in_err-next c = rw (handed_up _ _ c.from_residual.ensures.1) (section_stops _ _ c.in_err-next.field-0.0 c.in_err-next.ensures)
 
-pub returns-in-Refused : goal.returns-in-Refused
+pub returns : goal.returns
 unfolding head_names
-returns-in-Refused c = section_stops _ _ c.in-Refused.refusal c.in-Refused.ensures
+returns c = rw c.in_ok-next.ensures.0 c.read_head_row.ensures

@@ -1,12 +1,7 @@
--- `day_trains::read_train_rows` meets its contract. The invariant is `TrainsSoFar`: i rows are read and stored, the reading goes on at p.
-use Prim.Native.Nat.{◌≤◌, ◌-◌}
-use mathlib.Core.Path.{◌≡◌}
-use lib.ListN.{length, drop}
+-- The invariant is `TrainsSoFar`: i rows are read and stored, the reading goes on at p.
+use Rattle.std.proofs.Common.{drop}
 use Rattle.day_trains.specs.Trains.{TrainsSoFar}
 use Rattle.day_trains.proofs.read_train_rows.Given as goal
 
 abbrev pub invariant-loop-i : goal.invariant-loop-i
-invariant-loop-i l = TrainsSoFar l.l l.slots l.n l.text (drop l.at l.text) l.initial.numbers l.initial.first l.initial.last l.numbers l.first l.last l.i l.p l.before × ((l.i ≤ l.n) × ((length l.numbers ≡ length l.initial.numbers) × ((length l.first ≡ length l.initial.first) × (length l.last ≡ length l.initial.last))))
-
-abbrev pub decreases-loop-i : goal.decreases-loop-i
-decreases-loop-i l = l.n - l.i
+invariant-loop-i l = TrainsSoFar l.l l.slots l.n l.text (drop l.at l.text) l.initial.numbers l.initial.first l.initial.last l.numbers l.first l.last l.i l.p l.before

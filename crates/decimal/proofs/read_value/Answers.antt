@@ -1,41 +1,46 @@
-use mathlib.Core.Path.{sym, ◌∙◌}
-use native.Mathlib.Omega.{arith}
-use borrow.Author.Rules.{rules}
+use Rattle.std.proofs.Common.{le_refl, ◌≡◌, true, ltb-true, ℕ, ◌+◌, ◌-◌, ◌≤◌, List, length, get_or, take, drop, sym, ap, ◌∙◌, arith, rules, length-drop}
+use Rattle.std.proofs.lemmas.List.{drop-drop, take_all, get_or_read}
+use Rattle.decimal.specs.Parsed.{got}
+use Rattle.decimal.specs.Decimal.{is_digit}
 use Rattle.decimal.specs.Laws.{grows_is}
-use Rattle.decimal.specs.PlaceLaws.{value_end, value_other, value_start, more_end, more_other, more-full, more-next}
+use Rattle.decimal.specs.PlaceLaws.{at_end, value_start, more_end, more_other, more-full, more-next}
 use Rattle.decimal.proofs.read_value.Goals as goal
 
-pub returns-then-text-at : goal.returns-then-text-at
-returns-then-text-at c = value_end _ _ c.if-text-at.true
+-- the text from the place k on, as the loop goes over it
+rest : (t : List ℕ) (k : ℕ) → take (length t - k) (drop k t) ≡ drop k t
+rest t k = take_all (length t - k) (drop k t) (omega (arith, length-drop k t))
 
-pub returns-then-not-is_digit : goal.returns-then-not-is_digit
-returns-then-not-is_digit c = value_other _ _ c.if-text-at.false (sym c.is_digit.ensures ∙ c.if-not-is_digit.true)
+rest_from : (t : List ℕ) (k i : ℕ) → drop i (take (length t - k) (drop k t)) ≡ drop (k + i) t
+rest_from t k i = rw (rest t k) (drop-drop i k t)
 
-pub loop-p-init : goal.loop-p-init
-loop-p-init c =
-    let d = sym c.is_digit.ensures ∙ c.if-not-is_digit.false in
-    (rw c.digit_value-v.ensures.0 (value_start _ _ c.if-text-at.false d), search rules, search rules)
+-- what is left at the end of both
+ends : (s t : List ℕ) (i k : ℕ) → length s ≤ i → length t ≤ k → drop i s ≡ drop k t
+ends s t i k h g = rw (at_end s i h, at_end t k g)
 
-pub returns-then-not-is_digit-2 : goal.returns-then-not-is_digit-2
-returns-then-not-is_digit-2 c =
-    let l = c.loop-p in
+pub loop-i-init : goal.loop-i-init
+loop-i-init c =
+    let t = c.args.text.now in
+    let found = c.in_ok-first.ensures.lookup in
+    let inside = ltb-true _ _ (sym found.0) in
+    let byte = get_or_read t _ _ inside found.1 0 in
+    let digit : is_digit (get_or t c.args.at 0) ≡ true = ap is_digit (sym byte) ∙ sym c.is_ascii_digit.ensures.value ∙ c.if-not-is_ascii_digit.false in
+    (rw (c.digit_value-value.ensures.0, byte, rest t (c.args.at + 1)) (value_start t c.args.at inside digit), search rules)
+
+pub returns-then-not-is_ascii_digit-2 : goal.returns-then-not-is_ascii_digit-2
+returns-then-not-is_ascii_digit-2 c =
     record {
-      read = l.invariant.0 ∙ more_other _ _ _ c.loop-p-test.true (sym c.is_digit-in-loop-p.ensures ∙ c.if-not-is_digit-2.true);
-      inside = l.invariant.1;
+      read = rw (← rest_from c.args.text.now (c.args.at + 1) c.loop-i.i) (c.loop-i.invariant.0 ∙ more_other _ _ _ c.loop-i-test.true (cc));
+      inside = search rules;
     }
 
-pub returns-then-not-v : goal.returns-then-not-v
-returns-then-not-v c =
-    let d = sym c.is_digit-in-loop-p.ensures ∙ c.if-not-is_digit-2.false in
-    let l = c in
-    l.loop-p.invariant.0 ∙ more-full _ _ _ l.loop-p-test.true d c.if-not-v.true
+pub returns-then-not-grows : goal.returns-then-not-grows
+returns-then-not-grows c = c.loop-i.invariant.0 ∙ more-full _ _ _ c.loop-i-test.true (cc) (cc)
 
-pub loop-p-preserved : goal.loop-p-preserved
-loop-p-preserved c =
-    let d = sym c.is_digit-in-loop-p.ensures ∙ c.if-not-is_digit-2.false in
-    let g = c.if-not-v.false in
-    let l = c in
-    (rw c.digit_value.ensures.0 (l.loop-p.invariant.0 ∙ more-next _ _ _ l.loop-p-test.true d g), search rules, omega (arith, grows_is l.loop-p.v g))
+pub loop-i-preserved : goal.loop-i-preserved
+loop-i-preserved c =
+    (rw c.digit_value.ensures.0 (c.loop-i.invariant.0 ∙ more-next _ _ _ c.loop-i-test.true (cc) (cc)), omega (arith, grows_is c.loop-i.value (cc)))
 
 pub returns : goal.returns
-returns c = record { read = c.loop-p.invariant.0 ∙ more_end _ _ _ c.loop-p-test.false; inside = c.loop-p.invariant.1 }
+returns c =
+    let t = c.args.text.now in
+    record { read = c.loop-i.invariant.0 ∙ more_end _ _ _ c.loop-i-test.false ∙ ap (got c.loop-i.value) (ends _ t _ (length t) c.loop-i-test.false (le_refl (length t))); inside = search rules }

@@ -7,9 +7,9 @@ use Rattle.groups_text.proofs.put_member.Goals as goal
 pub returns-then-groups-i : goal.returns-then-groups-i
 returns-then-groups-i c = rw (member_none _ _ _ _ c.if-groups-i.true) (record { next = search rules; list = refl })
 
-pub put_two-requires : goal.put_two-requires
-put_two-requires c =
-    rw (c.wide32.ensures.0, c.wide8.ensures.0) (rw (member_some _ _ _ _ c.if-groups-i.false) at c.requires.i_in_bounds_2)
+pub put_row-requires : goal.put_row-requires
+put_row-requires c =
+    rw (c.from-2.ensures, c.from.ensures) (rw (member_some _ _ _ _ c.if-groups-i.false) at c.requires.i_in_bounds_2)
 
 pub returns : goal.returns
-returns c = rw (member_some _ _ _ _ c.if-groups-i.false) (rw (c.wide32.ensures.0, c.wide8.ensures.0) at c.put_two.ensures)
+returns c = rw (member_some _ _ _ _ c.if-groups-i.false) (rw (c.from-2.ensures, c.from.ensures) at c.put_row.ensures)

@@ -1,21 +1,26 @@
--- `lines::read_field` meets its contract. The value, and then the byte after it.
-use Rattle.std.proofs.Common.{rules}
-use Rattle.lines.specs.Lines.{field}
-use Rattle.lines.specs.ReaderLaws.{byte_end, byte_other, byte_is}
+use Rattle.std.proofs.Common.{sym, ◌∙◌, arith, ltb-true, ltb-false}
+use Rattle.std.proofs.lemmas.List.{get_or_read}
+use Rattle.lines.proofs.Fields.{no_value, no_byte, other_byte, ended}
 use Rattle.lines.proofs.read_field.Goals as goal
 
-pub returns-in_default : goal.returns-in_default
-unfolding field
-returns-in_default c = rw c.in_default.ensures
+pub returns-in_err-value : goal.returns-in_err-value
+returns-in_err-value c = rw c.from_residual.ensures (no_value _ _ c.in_err-value.ensures)
 
-pub returns-then-text-next : goal.returns-then-text-next
-unfolding field
-returns-then-text-next c = rw (c.in-Is.ensures.read, byte_end _ _ _ c.if-text-next.true)
+pub returns-in_err-get : goal.returns-in_err-get
+returns-in_err-get c =
+    rw c.from_residual-in_err-get.ensures (no_byte c.args.text.now _ _ _ _ c.in_ok-value.ensures.read (ltb-false _ _ (sym c.in_err-get.ensures.lookup.0)))
 
-pub returns-then-text-next-2 : goal.returns-then-text-next-2
-unfolding field
-returns-then-text-next-2 c = rw (c.in-Is.ensures.read, byte_other _ _ _ c.if-text-next.false c.if-text-next-2.true)
+pub returns-then-branch-end : goal.returns-then-branch-end
+returns-then-branch-end c =
+    let found = c.in_ok-get.ensures.lookup in
+    let inside = ltb-true _ _ (sym found.0) in
+    other_byte c.args.text.now _ _ _ _ c.in_ok-value.ensures.read inside (λ e. c.if-branch-end.true (get_or_read _ _ _ inside found.1 0 ∙ e))
 
 pub returns : goal.returns
-unfolding field
-returns c = record { read = rw (c.in-Is.ensures.read, byte_is _ _ _ c.if-text-next.false c.if-text-next-2.false); inside = search rules }
+returns c =
+    let found = c.in_ok-get.ensures.lookup in
+    let inside = ltb-true _ _ (sym found.0) in
+    record {
+      read = ended c.args.text.now _ _ _ _ c.in_ok-value.ensures.read inside (sym (get_or_read _ _ _ inside found.1 0) ∙ c.if-branch-end.false);
+      inside = omega (arith, inside);
+    }

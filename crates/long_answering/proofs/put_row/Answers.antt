@@ -28,9 +28,9 @@ put_plan-requires c =
     let said : row_answer (answer c.plan_long.result) ≡ best_answer y (long_row y) = row_said y c.requires.0 36 is.trains.1 c.plan_long.ensures.result_value in
     -- the row that it leaves
     let left : (row : List ℕ) × (c.plan_long.new.row ≡ placed (long_row y) row) = (_, row_left y c.requires.0 _ is.trains.1 c.plan_long.ensures.row_after) in
-    let found : gives (outcome_of c.in-Plan.found.value) ≡ best_answer y (long_row y) = sym (ap (λ r. row_answer (answer r)) c.in-Plan.is) ∙ said in
+    let found : gives (outcome_of c.in-Ok.found.value) ≡ best_answer y (long_row y) = sym (ap (λ r. row_answer (answer r)) c.in-Ok.is) ∙ said in
     -- the lines that are put
-    let lines : List ℕ → List ℕ = plan_lines day.trains day.numbers (outcome_of c.in-Plan.found.value) in
+    let lines : List ℕ → List ℕ = plan_lines day.trains day.numbers (outcome_of c.in-Ok.found.value) in
     let lines_fit : length (lines c.plan_long.new.row) ≤ long_plan_bytes =
     omega (
       arith,
@@ -42,18 +42,18 @@ put_plan-requires c =
       row_in_bounds = omega (arith, lines_fit, c.requires.1);
     }
 
-pub returns-in-Refused : goal.returns-in-Refused
-returns-in-Refused c =
+pub returns-in-Err : goal.returns-in-Err
+returns-in-Err c =
     let day = c.args.day in
     let y = long_yard day in
     let is = sound_is long_limits y c.requires.0 in
     -- what planning answers
     let said : row_answer (answer c.plan_long.result) ≡ best_answer y (long_row y) = row_said y c.requires.0 36 is.trains.1 c.plan_long.ensures.result_value in
-    rw (← refused_reply y (long_row y) c.in-Refused.refusal (sym (ap (λ r. row_answer (answer r)) c.in-Refused.is) ∙ said))
+    rw (← refused_reply y (long_row y) c.in-Err.refusal (sym (ap (λ r. row_answer (answer r)) c.in-Err.is) ∙ said))
     (fits_most long_plan_bytes (omega arith) c.put_refusal.ensures)
 
-pub returns-in-Plan : goal.returns-in-Plan
-returns-in-Plan c =
+pub returns-in-Ok : goal.returns-in-Ok
+returns-in-Ok c =
     let day = c.args.day in
     let y = long_yard day in
     let is = sound_is long_limits y c.requires.0 in
@@ -61,9 +61,9 @@ returns-in-Plan c =
     let said : row_answer (answer c.plan_long.result) ≡ best_answer y (long_row y) = row_said y c.requires.0 36 is.trains.1 c.plan_long.ensures.result_value in
     -- the row that it leaves
     let left : (row : List ℕ) × (c.plan_long.new.row ≡ placed (long_row y) row) = (_, row_left y c.requires.0 _ is.trains.1 c.plan_long.ensures.row_after) in
-    let found : gives (outcome_of c.in-Plan.found.value) ≡ best_answer y (long_row y) = sym (ap (λ r. row_answer (answer r)) c.in-Plan.is) ∙ said in
+    let found : gives (outcome_of c.in-Ok.found.value) ≡ best_answer y (long_row y) = sym (ap (λ r. row_answer (answer r)) c.in-Ok.is) ∙ said in
     -- the lines that are put
-    let lines : List ℕ → List ℕ = plan_lines day.trains day.numbers (outcome_of c.in-Plan.found.value) in
+    let lines : List ℕ → List ℕ = plan_lines day.trains day.numbers (outcome_of c.in-Ok.found.value) in
     let lines_are : lines c.plan_long.new.row ≡ day_reply y (long_row y) =
     ap lines left.1 ∙ plan_reply y (long_row y) (row-allowed y c.requires.0) left.0 found in
     let lines_fit : length (lines c.plan_long.new.row) ≤ long_plan_bytes =

@@ -20,7 +20,7 @@ beam_search-full-requires c =
     let is : Sound long_limits (long_yard s.day) = sound_is long_limits (long_yard s.day) c.requires.0.is_sound in
     let table : Given s.day.trains 36 s.day.boxes = record { few = is.trains.1; narrow = is.trains.1; whole = omega (arith, is.shape.boxes) } in
     record {
-      given = table;
+      trains = record { given = table; first_long = omega (arith, is.shape.first, is.trains.1); last_long = omega (arith, is.shape.last, is.trains.1) };
       all_is = c.all_trains.ensures;
       few_tracks = is.tracks.1;
       few_slots = is.slots.1;
@@ -28,8 +28,6 @@ beam_search-full-requires c =
       light_split = is.weights.1;
       some_width = c.requires.0.some_width_lem;
       few_width = c.requires.0.few_width_lem;
-      first_long = omega (arith, is.shape.first, is.trains.1);
-      last_long = omega (arith, is.shape.last, is.trains.1);
       row_long = c.requires.0.long;
     }
 
@@ -46,8 +44,13 @@ pub lower_figure-requires : goal.lower_figure-requires
 lower_figure-requires c =
     let s = c.args in
     let is : Sound long_limits (long_yard s.day) = sound_is long_limits (long_yard s.day) c.requires.0.is_sound in
-    let table : Given s.day.trains 36 s.day.boxes = record { few = is.trains.1; narrow = is.trains.1; whole = omega (arith, is.shape.boxes) } in
-    (table, omega (arith, is.shape.first, is.trains.1), omega (arith, is.shape.last, is.trains.1), is.tracks.0, is.tracks.1, omega (arith, is.weights), omega (arith, is.weights))
+    let table : Given s.day.trains 36 s.day.boxes = record { few = is.trains.1; narrow = is.trains.1; whole = omega (arith, is.shape.boxes) } in (
+      record { given = table; first_long = omega (arith, is.shape.first, is.trains.1); last_long = omega (arith, is.shape.last, is.trains.1) },
+      is.tracks.0,
+      is.tracks.1,
+      omega (arith, is.weights),
+      omega (arith, is.weights),
+    )
 
 pub returns : goal.returns
 returns c =

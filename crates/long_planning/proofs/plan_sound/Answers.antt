@@ -4,7 +4,7 @@ use mathlib.Core.List.{[], ◌∷◌}
 use native.Mathlib.Omega.{arith}
 use Rattle.day.specs.Answer.{refuses}
 use Rattle.day.specs.SoundLaws.{Sound, sound_is}
-use Rattle.feasibility.specs.declared.Overbooked.TheVariants.{Interval, Nowhere}
+use Rattle.std.specs.Prelude.{None, Some}
 use Rattle.feasibility.proofs.Search.{finds_day}
 use Rattle.long_day.specs.LongDay.{long_limits, long_yard}
 use Rattle.long_planning.proofs.Laws.{says_nine}
@@ -16,15 +16,15 @@ first_overbooked-found-requires c =
     let is : Sound long_limits (long_yard s.day) = sound_is long_limits (long_yard s.day) c.requires.is_sound in
     (omega (arith, is.shape.first, is.trains.1), omega (arith, is.shape.last, is.trains.1))
 
-pub returns-in-Interval : goal.returns-in-Interval
-returns-in-Interval c =
+pub returns-in-Some : goal.returns-in-Some
+returns-in-Some c =
     let s = c.args in
     let is : Sound long_limits (long_yard s.day) = sound_is long_limits (long_yard s.day) c.requires.is_sound in
     let y = long_yard s.day in
-    let x = c.in-Interval in
-    let f = finds_day y (Interval x.a x.b x.k) x.ensures in
-    let n = says_nine y s.width (record { first = x.a; last = x.b }) s.row.now is.windows c.requires.some_width_lem f.0 in
-    record { says = ap (λ k. refuses 9 (x.a ∷ x.b ∷ k ∷ [])) f.1 ∙ n.says; row_is = n.row_is }
+    let x = c.in-Some.field-0 in
+    let f = finds_day y (Some x) c.in-Some.ensures in
+    let n = says_nine y s.width (record { first = x.first; last = x.last }) s.row.now is.windows c.requires.some_width_lem f.0 in
+    record { says = ap (λ k. refuses 9 (x.first ∷ x.last ∷ k ∷ [])) f.1 ∙ n.says; row_is = n.row_is }
 
 pub find_row-requires : goal.find_row-requires
-find_row-requires c = (c.requires, finds_day (long_yard c.args.day) Nowhere c.in_default.ensures)
+find_row-requires c = (c.requires, finds_day (long_yard c.args.day) None c.in_default.ensures)

@@ -1,12 +1,11 @@
 -- `lower_figure::direct_at_most` meets its contract.
--- the number of supplies that was tested
 use mathlib.Core.Path.{sym, ap, ◌∙◌}
-use Rattle.model.specs.Model.{cell}
 use Rattle.beam.specs.LowerFigure.{largest}
+use Rattle.beam_tables.specs.Given.{received}
 use Rattle.lower_figure.specs.Figure.{none_taken}
 use Rattle.lower_figure.proofs.direct_at_most.Goals as goal
 
-pub returns-then-others-eq0 : goal.returns-then-others-eq0
-returns-then-others-eq0 c =
+pub returns-in-0 : goal.returns-in-0
+returns-in-0 c =
     let a = c.args in
-    sym (none_taken _ _) ∙ sym (ap (λ m. largest m a.n (cell a.width a.boxes.now a.i)) c.if-others-eq0.true)
+    sym (none_taken _ _) ∙ sym (ap (λ m. largest m a.boxes.now.trains (received a.boxes.now a.i)) c.in-0.is)

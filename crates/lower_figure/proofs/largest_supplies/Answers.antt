@@ -9,11 +9,10 @@ loop-j-init c = (search rules, search rules, search rules, search rules, three_n
 
 pub loop-j-preserved : goal.loop-j-preserved
 loop-j-preserved c =
-    let x = c in
-    let l = x.loop-j in (
+    let l = c.loop-j in (
       search rules,
-      omega (arith, c.larger-one.ensures, x.wide8-x.ensures.1),
-      omega (arith, c.larger-two.ensures, x.wide8-x.ensures.1),
-      omega (arith, c.larger-three.ensures, x.wide8-x.ensures.1),
-      three_next l.j _ (x.wide8-x.ensures.0 ∙ x.cell_at.ensures) l.invariant.4 c.larger-one.ensures c.larger-two.ensures c.larger-three.ensures,
+      search rules,
+      search rules,
+      search rules,
+      three_next l.j _ (c.from-x.ensures ∙ c.received.ensures) l.invariant.4 (search rules) (search rules) (search rules),
     )

@@ -2,14 +2,14 @@
 use native.Mathlib.Omega.{arith}
 use Prim.Native.Nat.{◌-◌}
 use mathlib.Core.Path.{ap₂}
-use Rattle.model.specs.Model.{cell}
+use Rattle.beam_tables.specs.Given.{received}
 use Rattle.lower_figure.specs.Figure.{sure_split, largest_le}
 use Rattle.lower_figure.proofs.surely_split.Goals as goal
 
 pub overflow_sub-result : goal.overflow_sub-result
 overflow_sub-result c =
     let a = c.args in
-    omega (arith, c.direct_at_most.ensures, c.incoming_to.ensures.0, largest_le (a.tracks - 1) a.n (cell a.width a.boxes.now a.i))
+    omega (arith, c.direct_at_most.ensures, c.incoming_to.ensures.0, largest_le (a.tracks - 1) a.boxes.now.trains (received a.boxes.now a.i))
 
 pub returns : goal.returns
 unfolding sure_split

@@ -2,7 +2,9 @@
 use Rattle.std.proofs.Common.{arith, ◌≤◌}
 use Rattle.fold.specs.Fold.{lowest_le}
 use Rattle.offering.specs.Offered.{offered_stays, offered_replaces, offered_joins, offered_pushes, offered_drops}
+use borrow.Author.Rules.{rules}
 use Rattle.beam.specs.HeldWords.{held_before}
+use Rattle.held_plans.specs.Words.{word, words}
 use Rattle.offering.proofs.offer.Goals as goal
 
 pub returns-then-same-place : goal.returns-then-same-place
@@ -16,8 +18,8 @@ returns-then-same-count c =
 pub put-requires-then-count-width : goal.put-requires-then-count-width
 put-requires-then-count-width c =
     let a = c.args in
-    let le : c.place_of_plan-place.result ≤ a.count = omega (arith, c.place_of_plan-place.ensures, lowest_le a.count (held_before a.slots a.x.now a.held.now)) in
-    (le, omega arith, c.requires.3, c.requires.4)
+    let le : c.place_of_plan-place.result ≤ a.held.now.count = omega (arith, c.place_of_plan-place.ensures, lowest_le a.held.now.count (held_before a.slots (word a.x.now) (words a.held.now.plans))) in
+    (le, search rules, search rules)
 
 pub returns-then-count-width : goal.returns-then-count-width
 returns-then-count-width c =

@@ -15,20 +15,20 @@ use Rattle.period_answering.proofs.put_period.Goals as goal
 pub put_report-requires : goal.put_report-requires
 put_report-requires c =
     let given : period_report day_limits c.args.text.now cost_area choice_area ≡ gives c.report_period-reported.result.report = let p = c.report_period-reported in
-    sym p.ensures.report_value ∙ ap (λ v. judged v p.result.report) c.in-Accepted.is in
+    sym p.ensures.report_value ∙ ap (λ v. judged v p.result.report) c.in-Ok.is in
     let r = c.report_period-reported.result.report in
     (given_countable c.args.text.now r given, omega (arith, given_fits c.args.text.now r given, c.requires))
 
-pub returns-in-Accepted : goal.returns-in-Accepted
-returns-in-Accepted c =
+pub returns-in-Ok : goal.returns-in-Ok
+returns-in-Ok c =
     let given : period_report day_limits c.args.text.now cost_area choice_area ≡ gives c.report_period-reported.result.report = let p = c.report_period-reported in
-    sym p.ensures.report_value ∙ ap (λ v. judged v p.result.report) c.in-Accepted.is in
+    sym p.ensures.report_value ∙ ap (λ v. judged v p.result.report) c.in-Ok.is in
     let q = c.put_report.ensures in
     let text = c.args.text.now in
     (rw (← reply_is text (sym given)) q, omega (arith, put_count q, given_fits text c.report_period-reported.result.report given))
 
-pub returns-in-Refused : goal.returns-in-Refused
-returns-in-Refused c =
-    let refused : refusal c.in-Refused.refusal ≡ period_report day_limits c.args.text.now cost_area choice_area = let p = c.report_period-reported in
-    sym (ap (λ v. judged v p.result.report) c.in-Refused.is) ∙ p.ensures.report_value in
+pub returns-in-Err : goal.returns-in-Err
+returns-in-Err c =
+    let refused : refusal c.in-Err.refusal ≡ period_report day_limits c.args.text.now cost_area choice_area = let p = c.report_period-reported in
+    sym (ap (λ v. judged v p.result.report) c.in-Err.is) ∙ p.ensures.report_value in
     rw (← reply_is c.args.text.now refused) (fits_most report_bytes (omega arith) c.put_refusal.ensures)

@@ -17,7 +17,6 @@ use Rattle.staging.specs.SlotInRow.{row_around}
 use Rattle.staging.proofs.SlotInRow.{split_in_row}
 use Rattle.staging.specs.FromTables.{DayTables}
 use Rattle.staging.proofs.FromTables.{room_enough, unbarred_cheap, solved_day}
-use Rattle.tables.specs.Given.{Given}
 use Rattle.barring.specs.Laws.{barred_twice}
 use Rattle.placing.proofs.solve_day.Goals as goal
 use Rattle.placing.proofs.solve_day.Goals.{After-fill_open, Start}
@@ -25,20 +24,17 @@ use Rattle.placing.proofs.solve_day.Goals.{After-fill_open, Start}
 -- ---- what holds there
 
 -- what a sound day says
-least : (c : Start) → Sound day_limits (yard c.args.day)
-least c = sound_is day_limits (yard c.args.day) c.requires.0
+least : (c : Start) → Sound day_limits (yard c.args.day.now)
+least c = sound_is day_limits (yard c.args.day.now) c.requires.0
 
 -- at most 4,096 sets
 small : (c : Start) → c.args.size ≤ 4096
 small c =
-    let most : 2 ^ c.args.day.trains ≤ 2 ^ 12 = pow-le-pow_right (lit≤ tt) (least c).trains.1 in
+    let most : 2 ^ c.args.day.now.trains ≤ 2 ^ 12 = pow-le-pow_right (lit≤ tt) (least c).trains.1 in
     omega (arith, most, c.requires.1.0)
 
-sets : (c : Start) → 2 ^ c.args.day.trains ≤ 4096
+sets : (c : Start) → 2 ^ c.args.day.now.trains ≤ 4096
 sets c = subst (λ k. k ≤ 4096) c.requires.1.0 (small c)
-
-given : (c : Start) → Given c.args.day.trains 12 c.args.day.boxes
-given c = record { few = (least c).trains.1; narrow = (least c).trains.1; whole = omega (arith, (least c).shape.boxes) }
 
 -- the filled tables, and that they are the day's
 abbrev filled : After-fill_open → Tables
@@ -47,9 +43,9 @@ filled f =
     let k = v in
     tables_of k.fill_needing.new.need v.fill_late.new.late f.bar_groups.new.price k.fill_count.new.count f.fill_open.new.opens
 
-day-tables : (f : After-fill_open) → DayTables (yard f.args.day) (filled f)
+day-tables : (f : After-fill_open) → DayTables (yard f.args.day.now) (filled f)
 day-tables f =
-    let y = yard f.args.day in
+    let y = yard f.args.day.now in
     let below : (m : ℕ) → m < 2 ^ y.trains → m < f.args.size = λ m h. omega (arith, f.requires.1.0) in
     let p = f in
     let v = p in
@@ -63,11 +59,14 @@ day-tables f =
           ∙ ap (λ x. cond (together y.trains y.groups m) x barred) (p.fill_price.ensures.all m (below m h))
           ∙ barred_twice (leb (ones m) y.tracks) (together y.trains y.groups m) (y.split * from_outside y.trains (received y) m);
       windows = f.fill_open.ensures.all;
-      cheap = λ row. omega (arith, cost-most (yard f.args.day) row f.requires.0);
+      cheap = λ row. omega (arith, cost-most (yard f.args.day.now) row f.requires.0);
     }
 
 pub fill_needing-requires : goal.fill_needing-requires
-fill_needing-requires c = (given (goal.at.fill_needing-requires c).Start, sets (goal.at.fill_needing-requires c).Start)
+fill_needing-requires c =
+    let s = (goal.at.fill_needing-requires c).Start in
+    let few = (least s).trains.1 in
+    (record { few = few; narrow = few; whole = omega (arith, (least s).shape.boxes) }, sets s)
 
 pub fill_count-requires : goal.fill_count-requires
 fill_count-requires c = let s = c in ((least (goal.at.fill_count-requires s).Start).trains.1, sets (goal.at.fill_count-requires s).Start)
@@ -79,12 +78,13 @@ fill_late-requires c =
 
 pub fill_price-requires : goal.fill_price-requires
 fill_price-requires c =
-    let s = c in
-    let y = yard s.args.day in (
-      given (goal.at.fill_price-requires s).Start,
-      s.requires.1.0,
-      small (goal.at.fill_price-requires s).Start,
-      λ x l. omega (arith, split_in_row y x (omega (arith, s.requires.1.0)), cost-most y (row_around y.trains x x) s.requires.0),
+    let s = (goal.at.fill_price-requires c).Start in
+    let y = yard c.args.day.now in
+    let few = (least s).trains.1 in (
+      record { few = few; narrow = few; whole = omega (arith, (least s).shape.boxes) },
+      c.requires.1.0,
+      small s,
+      λ x l. omega (arith, split_in_row y x (omega (arith, c.requires.1.0)), cost-most y (row_around y.trains x x) c.requires.0),
     )
 
 pub bar_groups-requires : goal.bar_groups-requires
@@ -95,34 +95,31 @@ bar_groups-requires c =
 pub fill_open-requires : goal.fill_open-requires
 fill_open-requires c =
     let s = c in
-    let n : s.args.day.trains ≤ 12 = (least (goal.at.fill_open-requires s).Start).trains.1 in
-    let t : s.args.day.slots ≤ 8 = (least (goal.at.fill_open-requires s).Start).slots.1 in
+    let n : s.args.day.now.trains ≤ 12 = (least (goal.at.fill_open-requires s).Start).trains.1 in
+    let t : s.args.day.now.slots ≤ 8 = (least (goal.at.fill_open-requires s).Start).slots.1 in
     (n, omega (arith, (least (goal.at.fill_open-requires s).Start).shape.first, n), omega (arith, (least (goal.at.fill_open-requires s).Start).shape.last, n), omega arith, t)
 
 pub solve-requires : goal.solve-requires
 solve-requires c =
-    let f = c in
-    let p = f in
-    let v = p in
-    let k = v in
-    let s = f in
-    let long : (k : ℕ) → k ≡ 4096 → s.args.size ≤ k = λ k e. omega (arith, small (goal.at.solve-requires s).Start) in
-    let slots : s.args.day.slots ≤ 8 = (least (goal.at.solve-requires s).Start).slots.1 in (
-      record {
-        sets = (omega (arith, pow_pos s.args.day.trains, s.requires.1.0), small (goal.at.solve-requires s).Start);
-        stages = (least (goal.at.solve-requires s).Start).slots;
-        needs = long _ k.fill_needing.auto.need;
-        lates = long _ v.fill_late.auto.late;
-        prices = long _ (f.bar_groups.auto.price ∙ p.fill_price.auto.price);
-        counts = long _ k.fill_count.auto.count;
-        opened = subst (λ k. s.args.day.slots ≤ k) (sym f.fill_open.auto.opens) slots;
-        few = λ m l. omega (arith, (day-tables (goal.at.solve-requires f).After-fill_open).counts m (omega (arith, s.requires.1.0)), ones-le 12 m (omega (arith, small (goal.at.solve-requires s).Start)));
-        fits = λ t r x l hx m. omega (arith, unbarred_cheap (day-tables (goal.at.solve-requires f).After-fill_open) t r x (omega (arith, s.requires.1.0)) hx m);
-      },
-      record { few = (least (goal.at.solve-requires s).Start).tracks.1; enough = λ m h. room_enough (day-tables (goal.at.solve-requires f).After-fill_open) m (omega (arith, s.requires.1.0)) },
-      s.requires.1.1.0,
-      s.requires.1.1.1,
-    )
+    let s = (goal.at.solve-requires c).Start in
+    let f = (goal.at.solve-requires c).After-fill_open in
+    let long : (k : ℕ) → k ≡ 4096 → c.args.size ≤ k = λ k e. omega (arith, small s) in
+    record {
+      tables = record {
+        sets = (omega (arith, pow_pos c.args.day.now.trains, c.requires.1.0), small s);
+        stages = (least s).slots;
+        needs = long _ c.fill_needing.auto.need;
+        lates = long _ c.fill_late.auto.late;
+        prices = long _ (c.bar_groups.auto.price ∙ c.fill_price.auto.price);
+        counts = long _ c.fill_count.auto.count;
+        opened = subst (λ k. c.args.day.now.slots ≤ k) (sym c.fill_open.auto.opens) (least s).slots.1;
+        few = λ m l. omega (arith, (day-tables f).counts m (omega (arith, c.requires.1.0)), ones-le 12 m (omega (arith, small s)));
+        fits = λ t r x l hx m. omega (arith, unbarred_cheap (day-tables f) t r x (omega (arith, c.requires.1.0)) hx m);
+      };
+      room = record { few = (least s).tracks.1; enough = λ m h. room_enough (day-tables f) m (omega (arith, c.requires.1.0)) };
+      costs = c.requires.1.1.0;
+      choices = c.requires.1.1.1;
+    }
 
 pub returns : goal.returns
 returns c =

@@ -17,17 +17,17 @@ put_bytes-next-requires c =
 pub loop-i-init : goal.loop-i-init
 loop-i-init c = (search rules, refl, put_none _)
 
-pub put_two-next-requires : goal.put_two-next-requires
+pub put_row-next-requires : goal.put_row-next-requires
 unfolding slot_names
-put_two-next-requires c =
+put_row-next-requires c =
     let s = c.args in
     let l = c.loop-i in
     let f = row_fits slot_names (slot_line s.numbers.now s.row.now) l.i s.n c.loop-i-test.true in
-    rw (c.wide8.ensures.0, c.wide32.ensures.0) (omega (arith, f, c.requires.n_in_bounds_2, c.put_bytes-next.auto.out, c.put_bytes-next.ensures.next, l.invariant.1, l.invariant.2.next))
+    rw (c.from-in-loop-i.ensures, c.from.ensures) (omega (arith, f, c.requires.n_in_bounds_2, c.put_bytes-next.auto.out, c.put_bytes-next.ensures.next, l.invariant.1, l.invariant.2.next))
 
 pub loop-i-preserved : goal.loop-i-preserved
 loop-i-preserved c =
-    (search rules, search rules, put_more _ _ c.loop-i.invariant.2 (rw (c.wide8.ensures.0, c.wide32.ensures.0) at c.put_two-next.ensures))
+    (search rules, search rules, put_more _ _ c.loop-i.invariant.2 (rw (c.from-in-loop-i.ensures, c.from.ensures) at c.put_row-next.ensures))
 
 pub returns : goal.returns
 unfolding slot_names

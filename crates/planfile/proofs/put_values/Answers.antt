@@ -14,9 +14,9 @@ unfolding value_names
 put_bytes-next-requires c =
     omega (arith, length-append value_names (row_text (figures_of (outcome_of c.args.value))))
 
-pub put_four-requires : goal.put_four-requires
+pub put_row-requires : goal.put_row-requires
 unfolding value_names
-put_four-requires c =
+put_row-requires c =
     let opened = ap (λ (o : Outcome). row_text (figures_of o)) (same_figures {a = figures c.count.result c.count-2.result c.count-3.result c.args.value.cost} c.count.ensures c.count-2.ensures c.count-3.ensures refl) in
     omega (arith, length-append value_names (row_text (figures_of (outcome_of c.args.value))), c.put_bytes-next.ensures.next, ap length opened)
 
@@ -24,4 +24,4 @@ pub returns : goal.returns
 unfolding value_names
 returns c =
     let opened = ap (λ (o : Outcome). row_text (figures_of o)) (same_figures {a = figures c.count.result c.count-2.result c.count-3.result c.args.value.cost} c.count.ensures c.count-2.ensures c.count-3.ensures refl) in
-    put_text {b = row_text (figures_of (outcome_of c.args.value))} c.put_bytes-next.ensures (rw (← opened) c.put_four.ensures)
+    put_text {b = row_text (figures_of (outcome_of c.args.value))} c.put_bytes-next.ensures (rw (← opened) c.put_row.ensures)

@@ -1,77 +1,15 @@
--- A refusal of valuing is handed on; the text of an allowed row fits the buffer.
-use mathlib.Core.Path.{◌≡◌, sym, ap, ◌∙◌}
-use mathlib.Core.List.{List}
-use Prim.Native.Nat.{ℕ, ◌≤◌}
-use native.Mathlib.Omega.{arith}
-use lib.Dec.{T}
-use lib.ListN.{length}
-use Rattle.model.specs.Model.{Yard, Outcome, outcome, allowed}
-use Rattle.model.proofs.Rows.{allowed_is}
-use Rattle.day.specs.Answer.{gives}
-use Rattle.day.specs.AnswerLaws.{AllHold, checked_gives}
-use Rattle.day.specs.Sound.{day_limits, yard, sound}
+-- The buffer holds the plan file of every allowed row.
+use Rattle.std.proofs.Common.{◌≡◌, ℕ, List, ◌≤◌, T, length, arith, subst}
+use Rattle.model.specs.Model.{Yard, allowed}
+use Rattle.day.specs.Sound.{day_limits, sound}
 use Rattle.day.specs.SoundLaws.{sound_is}
-use Rattle.valuing.specs.Valuing.{row_checks, valued}
-use Rattle.valuing.proofs.Laws.{allowed-valued}
-use Rattle.output.specs.Laws.{put_count, put_front, says_refused, says_text}
-use Rattle.planfile.specs.PlanText.{plan_lines, plan_text}
-use Rattle.planfile.specs.Size.{plan_bytes, plan_size, plan_most}
+use Rattle.day.specs.declared.Limits.{Limits}
+use Rattle.planfile.specs.PlanText.{plan_text}
+use Rattle.planfile.specs.Size.{plan_size, plan_most}
 use Rattle.planfile.proofs.write_plan.Goals as goal
 
--- where valuing gives values the checks hold, the day is sound, the row allowed, the values are the model's, and the text fits
-record Known (y : Yard) (r : List ℕ) (o : Outcome) : Type 0 where
-  pub hold : AllHold (row_checks day_limits y r)
-  pub is_sound : T (sound day_limits y)
-  pub is_allowed : T (allowed y r)
-  pub text : plan_lines y.trains y.numbers o r ≡ plan_text y r
-  pub text-fits : length (plan_text y r) ≤ plan_bytes
-  pub fits : length (plan_lines y.trains y.numbers o r) ≤ plan_bytes
+room : (l : Limits) (y : Yard) (row : List ℕ) → l ≡ day_limits → T (sound l y) → T (allowed y row) → length (plan_text y row) ≤ 161
+room l y row e t a = omega (arith, plan_size day_limits y row (sound_is day_limits y (subst (λ l. T (sound l y)) e t)) a, plan_most)
 
-known : {y : Yard} {r : List ℕ} {o : Outcome} → gives o ≡ valued day_limits y r → Known y r o
-unfolding valued
-known {y} {r} {o} said =
-    let facts = allowed-valued day_limits _ _ _ (sym said) in
-    let text : plan_lines y.trains y.numbers o r ≡ plan_text y r = ap (λ o. plan_lines y.trains y.numbers o r) (sym facts.2) in
-    let room : length (plan_text y r) ≤ plan_bytes = omega (arith, plan_size day_limits _ _ (sound_is _ _ facts.0) facts.1, plan_most) in
-    record {
-      hold = (checked_gives (row_checks day_limits y r) (gives (outcome y r)) _ (sym said)).0;
-      is_sound = facts.0;
-      is_allowed = facts.1;
-      text = text;
-      text-fits = room;
-      fits = rw text room;
-    }
-
-pub put_plan-count-requires : goal.put_plan-count-requires
-put_plan-count-requires c =
-    let k = known c.in-Values.ensures in
-    let s = sound_is day_limits _ k.is_sound in
-    record {
-      n_in_bounds = (omega (arith, s.shape.numbers, s.trains.1), omega (arith, (allowed_is _ _ k.is_allowed).long));
-      row_in_bounds = k.fits;
-    }
-
-pub slice_bounds-text-end : goal.slice_bounds-text-end
-slice_bounds-text-end c =
-    let k = known c.in-Values.ensures in
-    omega (arith, put_count c.put_plan-count.ensures, k.fits, c.put_plan-count.auto.out)
-
-pub slice_bounds-write_text-end : goal.slice_bounds-write_text-end
-slice_bounds-write_text-end c =
-    let k = known c.in-Values.ensures in
-    let front = put_front c.put_plan-count.ensures k.fits ∙ k.text in
-    omega (arith, ap length front, put_count c.put_plan-count.ensures, ap length k.text)
-
-pub returns-in-Refused : goal.returns-in-Refused
-unfolding valued
-returns-in-Refused c =
-    let a = c.args in
-    let s = says_refused _ _ (row_checks day_limits (yard a.day) a.row.now) (outcome (yard a.day) a.row.now) (sym c.in-Refused.ensures) in
-    record { result_value = s.0; out_after = s.1 }
-
-pub returns-in-Values : goal.returns-in-Values
-returns-in-Values c =
-    let a = c.args in
-    let k = known c.in-Values.ensures in
-    let s = says_text _ _ (row_checks day_limits (yard a.day) a.row.now) k.hold (put_front c.put_plan-count.ensures k.fits ∙ k.text) c.write_text.ensures.result_value c.write_text.ensures.out_after in
-    record { result_value = s.0; out_after = s.1 }
+pub write_plan_file-requires-clause-room : goal.write_plan_file-requires-clause-room
+write_plan_file-requires-clause-room c = room _ _ _ c.parts.ensures.limits

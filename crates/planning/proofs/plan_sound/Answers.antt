@@ -39,14 +39,14 @@ first_overbooked-found-requires c =
     let h = least (goal.at.first_overbooked-found-requires c).Start in
     (omega (arith, h.shape.first, h.trains.1), omega (arith, h.shape.last, h.trains.1))
 
-pub returns-in-Interval : goal.returns-in-Interval
-returns-in-Interval c =
+pub returns-in-Some : goal.returns-in-Some
+returns-in-Some c =
     let a = c.args in
     let y = yard a.day in
-    let x = c.in-Interval in
-    let f = subst (Finds y) x.is (finds_day y c.first_overbooked-found.result c.first_overbooked-found.ensures) in
-    let s = says_nine y (record { first = x.a; last = x.b }) a.row.now f.0 in
-    record { says = ap (λ k. refuses 9 (x.a ∷ x.b ∷ k ∷ [])) f.1 ∙ s.0; row_is = s.1; costs = refl; choices = refl }
+    let x = c.in-Some.field-0 in
+    let f = subst (Finds y) c.in-Some.is (finds_day y c.first_overbooked-found.result c.first_overbooked-found.ensures) in
+    let s = says_nine y (record { first = x.first; last = x.last }) a.row.now f.0 in
+    record { says = ap (λ k. refuses 9 (x.first ∷ x.last ∷ k ∷ [])) f.1 ∙ s.0; row_is = s.1; costs = refl; choices = refl }
 
 pub returns-then-not-place_trains : goal.returns-then-not-place_trains
 returns-then-not-place_trains c =

@@ -1,14 +1,10 @@
--- `prices::add_train` meets its contract. The loop's invariant: the sets without train k, and those with it of the `below` sets of the
--- trains passed.
-use Prim.Native.Nat.{◌≤◌, ◌+◌, ◌-◌, ◌^◌}
-use mathlib.Core.Path.{◌≡◌}
-use Rattle.model.specs.Model.{cell}
+-- `prices::add_train` meets its contract. The loop's invariant: the sets without train k, and those with it of the sets of the trains
+-- passed.
+use Rattle.std.proofs.Common.{◌+◌, ◌^◌}
 use Rattle.staging.specs.Tables.{from_outside}
+use Rattle.tables.specs.Given.{boxes_of}
 use Rattle.tables.specs.Filled.{Filled}
 use Rattle.prices.proofs.add_train.Given as goal
 
 abbrev pub invariant-loop-b : goal.invariant-loop-b
-invariant-loop-b l = (l.b ≤ l.k) × (l.below ≡ 2 ^ l.b) × Filled (from_outside l.n (cell l.width l.boxes)) (l.size + l.below) l.initial.price l.price
-
-abbrev pub decreases-loop-b : goal.decreases-loop-b
-decreases-loop-b l = l.k - l.b
+invariant-loop-b l = Filled (from_outside l.supplies.trains (boxes_of l.supplies)) (l.size + 2 ^ l.b) l.fn.price l.price

@@ -1,13 +1,14 @@
--- `prices::fill_outside` meets its contract. The loop's invariant: the table is filled for the `size` sets of the trains passed.
-use Prim.Native.Nat.{◌≤◌, ◌-◌, ◌^◌}
-use mathlib.Core.Path.{◌≡◌}
-use Rattle.model.specs.Model.{cell}
+-- `prices::fill_outside` meets its contract. The loop's invariant: the table is filled for the sets of the trains passed.
+use Rattle.std.proofs.Common.{◌^◌}
 use Rattle.staging.specs.Tables.{from_outside}
+use Rattle.tables.specs.Given.{boxes_of}
 use Rattle.tables.specs.Filled.{Filled}
+use Rattle.prices.specs.Filling.{Bounded}
 use Rattle.prices.proofs.fill_outside.Given as goal
 
 abbrev pub invariant-loop-k : goal.invariant-loop-k
-invariant-loop-k l = (l.k ≤ l.n) × (l.size ≡ 2 ^ l.k) × Filled (from_outside l.n (cell l.width l.boxes)) l.size l.initial.price l.price
-
-abbrev pub decreases-loop-k : goal.decreases-loop-k
-decreases-loop-k l = l.n - l.k
+invariant-loop-k l =
+    record {
+      filled : Filled (from_outside l.supplies.trains (boxes_of l.supplies)) (2 ^ l.k) l.fn.price l.price;
+      bounded : Bounded l.supplies.trains (boxes_of l.supplies) l.k;
+    }

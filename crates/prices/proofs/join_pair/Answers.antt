@@ -1,6 +1,5 @@
 use Prim.Native.Nat.{ℕ, ◌≤◌, ◌<◌, ◌+◌}
 use mathlib.Core.Path.{◌≡◌}
-use borrow.Author.Rules.{rules}
 use native.Mathlib.Omega.{arith}
 use lib.ListN.{length}
 use Rattle.optimum.specs.Workspace.{at}
@@ -14,9 +13,9 @@ word : (c : In-loop-m) (x : ℕ) → let s = c in let l = c.loop-m in
 word c x q =
     let s = c in
     let l = c.loop-m in
-    let long = l.invariant.1.kept.long in
+    let long = l.invariant.kept.long in
     let room = s.requires.room in
-    let same = l.invariant.1.old x q in
+    let same = l.invariant.old x q in
     let most = s.requires.small x q in
     (omega arith, same, omega arith)
 
@@ -41,7 +40,7 @@ room : (c : In-loop-m) → let s = c in let l = c.loop-m in
     (s.args.size + s.args.below + l.m < length l.price) × (s.args.size ≤ 4096) × (s.args.below ≤ s.args.size)
 room c =
     let s = c in
-    let long = c.loop-m.invariant.1.kept.long in
+    let long = c.loop-m.invariant.kept.long in
     let all = s.requires.room in
     (omega arith, s.requires.few, s.requires.apart)
 
@@ -49,4 +48,4 @@ pub loop-m-preserved : goal.loop-m-preserved
 loop-m-preserved c =
     let t = c in
     let w = words (goal.at.loop-m-preserved t).In-loop-m in
-    (search rules, added_next _ t.loop-m.invariant.1 (room (goal.at.loop-m-preserved t).In-loop-m).0 (omega arith))
+    added_next _ t.loop-m.invariant (room (goal.at.loop-m-preserved t).In-loop-m).0 (omega arith)

@@ -1,38 +1,31 @@
-use mathlib.Core.Path.{◌≡◌, sym, ◌∙◌}
-use borrow.Author.Rules.{rules}
-use native.Mathlib.Omega.{arith}
-use Rattle.fold.specs.Fold.{sum, sum_none, sum-next, at_end}
-use Rattle.model.specs.Model.{cell}
+use Rattle.std.proofs.Common.{◌≡◌, sym, subst, arith}
+use Rattle.fold.specs.Fold.{sum, sum_none, sum-next}
+use Rattle.tables.specs.Given.{boxes_of}
 use Rattle.prices.specs.Splits.{split_alone}
 use Rattle.prices.proofs.received_by.Goals as goal
 use Rattle.prices.proofs.received_by.Goals.{After-loop-j}
 
 -- when the loop has ended: the row's sum, which is that of the set of k alone and the row's own entry
-whole : (c : After-loop-j) → let a = c.args in c.loop-j.total ≡ sum a.n (cell a.width a.boxes.now a.k)
-whole c =
-    let a = c.args in
-    let l = c.loop-j in
-    l.invariant.1 ∙ at_end (λ j. sum j (cell a.width a.boxes.now a.k)) l.j a.n l.invariant.0 c.loop-j-test.false
+whole : (c : After-loop-j) → let s = c.args.supplies.now in c.loop-j.total ≡ sum s.trains (boxes_of s c.args.k)
+whole c = subst (λ j. c.loop-j.total ≡ sum j (boxes_of c.args.supplies.now c.args.k)) (omega arith) c.loop-j.invariant.sums
 
 pub loop-j-init : goal.loop-j-init
-loop-j-init c = (search rules, sym (sum_none _), search rules)
+loop-j-init c = record { sums = sym (sum_none _); small = omega arith }
 
 pub loop-j-preserved : goal.loop-j-preserved
 loop-j-preserved c =
-    let a = c.args in
-    let next = sum-next c.loop-j.j (cell a.width a.boxes.now a.k) in
-    omega arith
+    let i = c.loop-j.invariant in
+    let next = sum-next c.loop-j.j (boxes_of c.args.supplies.now c.args.k) in
+    record { sums = omega (arith, i.sums); small = omega (arith, i.small) }
 
 pub overflow_sub-result : goal.overflow_sub-result
 overflow_sub-result c =
-    let s = c in
-    let alone = split_alone s.args.n (cell s.args.width s.args.boxes.now) s.args.k s.requires.1 in
-    let all = whole (goal.at.overflow_sub-result c).After-loop-j in
-    omega arith
+    let s = c.args.supplies.now in
+    omega (arith, split_alone s.trains (boxes_of s) c.args.k c.requires.1, whole (goal.at.overflow_sub-result c).After-loop-j)
 
 pub returns : goal.returns
 returns c =
-    let s = c in
-    let alone = split_alone s.args.n (cell s.args.width s.args.boxes.now) s.args.k s.requires.1 in
+    let s = c.args.supplies.now in
     let all = whole (goal.at.returns c).After-loop-j in
-    omega arith
+    let few = c.requires.0.few in
+    (omega (arith, split_alone s.trains (boxes_of s) c.args.k c.requires.1, all), omega (arith, c.loop-j.invariant.small))

@@ -1,12 +1,8 @@
 -- `prices::received_by` meets its contract. The loop's invariant: the sum of the boxes from the trains passed, at most 255 for each.
-use Prim.Native.Nat.{◌≤◌, ◌-◌, ◌*◌}
-use mathlib.Core.Path.{◌≡◌}
+use Rattle.std.proofs.Common.{◌≡◌, ◌≤◌, ◌*◌}
 use Rattle.fold.specs.Fold.{sum}
-use Rattle.model.specs.Model.{cell}
+use Rattle.tables.specs.Given.{boxes_of}
 use Rattle.prices.proofs.received_by.Given as goal
 
 abbrev pub invariant-loop-j : goal.invariant-loop-j
-invariant-loop-j l = (l.j ≤ l.n) × (l.total ≡ sum l.j (cell l.width l.boxes l.k)) × (l.total ≤ 255 * l.j)
-
-abbrev pub decreases-loop-j : goal.decreases-loop-j
-decreases-loop-j l = l.n - l.j
+invariant-loop-j l = record { sums : l.total ≡ sum l.j (boxes_of l.supplies l.k); small : l.total ≤ 255 * l.j }

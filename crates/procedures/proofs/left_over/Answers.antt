@@ -1,24 +1,15 @@
-use mathlib.Core.Path.{sym}
-use native.Mathlib.Nat.{le_refl}
-use native.Mathlib.Omega.{arith}
-use borrow.Author.Tests.{eq-eqb, ne_eqb}
-use Rattle.fold.specs.Fold.{no_some, none_next, none_end, lowest-found, lowest_none}
-use Rattle.procedures.specs.Procedures.{waits}
-use borrow.Author.Rules.{rules}
+-- `procedures::left_over` meets its contract: the search stops at the first slot 0.
+use Rattle.std.proofs.Common.{◌≡◌, ◌∙◌, eqb, arith, rules}
+use Rattle.fold.specs.Fold.{lowest_le}
+use Rattle.fold.proofs.Searches.{place_in_front}
+use Rattle.procedures.specs.Procedures.{waits, left_over}
 use Rattle.procedures.proofs.left_over.Goals as goal
 
-pub loop-i-init : goal.loop-i-init
-loop-i-init c = (search rules, no_some _)
-
-pub returns-then-row-i-eq0 : goal.returns-then-row-i-eq0
-unfolding waits
-returns-then-row-i-eq0 c =
-    let l = c in
-    (sym (lowest-found _ _ _ (search rules) l.loop-i.invariant.1 (eq-eqb _ _ c.if-row-i-eq0.true)), omega (arith, l.loop-i.invariant.0))
-
-pub loop-i-preserved : goal.loop-i-preserved
-unfolding waits
-loop-i-preserved c = (search rules, none_next _ _ c.loop-i.invariant.1 (ne_eqb _ _ c.if-row-i-eq0.false))
-
 pub returns : goal.returns
-returns c = (sym (lowest_none _ _ (none_end _ _ _ c.loop-i.invariant.0 c.loop-i-test.false c.loop-i.invariant.1)), le_refl _)
+unfolding waits
+returns c =
+    let row = c.args.row.now in
+    let e : c.unwrap_or.result ≡ left_over c.args.n row =
+    c.unwrap_or.ensures
+    ∙ place_in_front (λ slot. eqb slot 0) 0 _ _ (λ x b q k. search rules) c.iter.result _ row c.args.n c.requires c.iter.ensures.rest c.position.result c.position.ensures.ran in
+    (e, omega (arith, lowest_le c.args.n (waits row)))

@@ -1,13 +1,10 @@
 -- `procedures::serve_myopic` meets its contract. The loop's invariant: the slots passed are filled.
-use mathlib.Core.Path.{◌≡◌}
-use Prim.Native.Nat.{◌≤◌, ◌-◌}
-use lib.ListN.{length}
-use Rattle.model.specs.Model.{cell}
+use Rattle.std.proofs.Common.{◌≡◌, ◌≤◌, length}
 use Rattle.procedures.specs.Procedures.{served_to}
+use Rattle.procedures.specs.Lent.{boxes_of}
 use Rattle.procedures.proofs.serve_myopic.Given as goal
 
 abbrev pub invariant-loop-t : goal.invariant-loop-t
-invariant-loop-t l = (l.t ≤ l.slots) × (length l.row ≡ length l.initial.row) × (l.row ≡ served_to l.n l.revisit l.split (cell l.width l.boxes) l.first l.last l.tracks l.t)
-
-abbrev pub decreases-loop-t : goal.decreases-loop-t
-decreases-loop-t l = l.slots - l.t
+invariant-loop-t l =
+    (l.t ≤ l.day.slots) × (length l.row ≡ length l.initial.row)
+    × (l.row ≡ served_to l.day.trains l.day.revisit l.day.split (boxes_of l.day) l.day.first.now l.day.last.now l.day.tracks l.t)

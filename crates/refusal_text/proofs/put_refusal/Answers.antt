@@ -10,10 +10,10 @@ use Rattle.refusal_text.specs.RefusalText.{line_names, interval_names}
 use Rattle.refusal_text.specs.Laws.{Word, nine_lines, other_lines, nine_fits, other_fits}
 use Rattle.refusal_text.proofs.put_refusal.Goals as goal
 
-pub put_four-requires : goal.put_four-requires
+pub put_row-requires : goal.put_row-requires
 unfolding interval_names
-put_four-requires c =
-    let t = c.in_numbers-told.result in
+put_row-requires c =
+    let t = c.from-told.result in
     let first : Word t.first = search rules in
     let second : Word t.second = search rules in
     let third : Word t.third = search rules in
@@ -22,19 +22,19 @@ put_four-requires c =
 pub returns-then-told-eq9 : goal.returns-then-told-eq9
 unfolding interval_names
 returns-then-told-eq9 c =
-    let t = c.in_numbers-told.result in
+    let t = c.from-told.result in
     let first : Word t.first = search rules in
     let second : Word t.second = search rules in
     let third : Word t.third = search rules in
-    let p : Put _ _ 0 _ (interval_names ++ row_text (9 ∷ t.first ∷ t.second ∷ t.third ∷ [])) = put_text c.put_bytes-next.ensures c.put_four.ensures in (
-      rw (nine_lines _ t c.in_numbers-told.ensures c.if-told-eq9.true) p,
+    let p : Put _ _ 0 _ (interval_names ++ row_text (9 ∷ t.first ∷ t.second ∷ t.third ∷ [])) = put_text c.put_bytes-next.ensures c.put_row.ensures in (
+      rw (nine_lines _ t c.from-told.ensures c.if-told-eq9.true) p,
       omega (arith, put_count p, nine_fits t.first t.second t.third first second third),
     )
 
-pub put_two-requires : goal.put_two-requires
+pub put_row-requires-2 : goal.put_row-requires-2
 unfolding line_names
-put_two-requires c =
-    let t = c.in_numbers-told.result in
+put_row-requires-2 c =
+    let t = c.from-told.result in
     let number : Word t.number = search rules in
     let first : Word t.first = search rules in
     omega (arith, length-append line_names (row_text (t.number ∷ t.first ∷ [])), other_fits t.number t.first number first, c.put_bytes-next-2.ensures.next)
@@ -42,10 +42,10 @@ put_two-requires c =
 pub returns : goal.returns
 unfolding line_names
 returns c =
-    let t = c.in_numbers-told.result in
+    let t = c.from-told.result in
     let number : Word t.number = search rules in
     let first : Word t.first = search rules in
-    let p : Put _ _ 0 _ (line_names ++ row_text (t.number ∷ t.first ∷ [])) = put_text c.put_bytes-next-2.ensures c.put_two.ensures in (
-      rw (other_lines _ t c.in_numbers-told.ensures c.if-told-eq9.false) p,
+    let p : Put _ _ 0 _ (line_names ++ row_text (t.number ∷ t.first ∷ [])) = put_text c.put_bytes-next-2.ensures c.put_row-2.ensures in (
+      rw (other_lines _ t c.from-told.ensures c.if-told-eq9.false) p,
       omega (arith, put_count p, other_fits t.number t.first number first),
     )

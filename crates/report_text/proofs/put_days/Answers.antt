@@ -21,9 +21,9 @@ pub overflow_add-days : goal.overflow_add-days
 overflow_add-days c =
     omega (arith, c.refused_days-refused.ensures, refused_few c.args.days.now refusal_count c.requires.0 (omega arith), c.requires.0.few 0 (omega arith))
 
-pub put_three-requires : goal.put_three-requires
+pub put_row-requires : goal.put_row-requires
 unfolding day_names
-put_three-requires c =
+put_row-requires c =
     let row_is_lem : let days = c.args.days.now in let k = c.refused_days-refused.result in row_text ((get_or days 0 0 + k) ∷ get_or days 0 0 ∷ k ∷ []) ≡ row_text (day_row days) = let days = c.args.days.now in ap (λ k. row_text ((get_or days 0 0 + k) ∷ get_or days 0 0 ∷ k ∷ [])) c.refused_days-refused.ensures in
     omega (arith, ap length row_is_lem, c.requires.1, c.put_bytes-next.ensures.next, c.put_bytes-next.auto.out)
 
@@ -31,4 +31,4 @@ pub returns : goal.returns
 unfolding day_names
 returns c =
     let row_is_lem : let days = c.args.days.now in let k = c.refused_days-refused.result in row_text ((get_or days 0 0 + k) ∷ get_or days 0 0 ∷ k ∷ []) ≡ row_text (day_row days) = let days = c.args.days.now in ap (λ k. row_text ((get_or days 0 0 + k) ∷ get_or days 0 0 ∷ k ∷ [])) c.refused_days-refused.ensures in
-    put_text c.put_bytes-next.ensures (rw (← row_is_lem) c.put_three.ensures)
+    put_text c.put_bytes-next.ensures (rw (← row_is_lem) c.put_row.ensures)

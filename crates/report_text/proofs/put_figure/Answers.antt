@@ -5,4 +5,4 @@ use Rattle.report_text.proofs.put_figure.Goals as goal
 
 pub returns : goal.returns
 returns c =
-    put_text c.put_bytes-next.ensures c.put_three.ensures
+    put_text c.put_bytes-next.ensures c.put_row.ensures

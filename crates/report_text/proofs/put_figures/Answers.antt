@@ -68,9 +68,9 @@ put_bytes-row-requires c =
     room_left (box_lines a.totals a.means) (saving_lines a.totals) room-boxes c.put_figure-savings.ensures c.put_figure-savings.auto.out in
     omega (arith, room-savings)
 
-pub put_one-requires : goal.put_one-requires
+pub put_row-requires : goal.put_row-requires
 unfolding revisit_names split_names direct_names box_names saving_names
-put_one-requires c =
+put_row-requires c =
     let room-splits : let a = c.args in c.put_figure-splits.result + length (from_splits a.totals a.means) ≤ length c.put_figure-splits.new.out =
     let a = c.args in
     room_left (revisit_lines a.totals a.means) (from_splits a.totals a.means) c.requires c.put_figure-splits.ensures c.put_figure-splits.auto.out in
@@ -88,4 +88,4 @@ put_one-requires c =
 pub returns : goal.returns
 unfolding revisit_names split_names direct_names box_names saving_names
 returns c =
-    put_text c.put_figure-splits.ensures (put_text c.put_figure-direct.ensures (put_text c.put_figure-boxes.ensures (put_text c.put_figure-savings.ensures (put_text c.put_bytes-row.ensures c.put_one.ensures))))
+    put_text c.put_figure-splits.ensures (put_text c.put_figure-direct.ensures (put_text c.put_figure-boxes.ensures (put_text c.put_figure-savings.ensures (put_text c.put_bytes-row.ensures c.put_row.ensures))))

@@ -8,9 +8,9 @@ use Rattle.report_text.proofs.put_refused.Goals as goal
 pub returns-then-days-k-eq0 : goal.returns-then-days-k-eq0
 returns-then-days-k-eq0 c = rw (refusal_none _ _ c.if-days-k-eq0.true) (record { next = search rules; list = refl })
 
-pub put_two-requires : goal.put_two-requires
-put_two-requires c = rw (refusal-some _ _ c.if-days-k-eq0.false) at c.requires.i_in_bounds
+pub put_row-requires : goal.put_row-requires
+put_row-requires c = rw (refusal-some _ _ c.if-days-k-eq0.false) at c.requires.i_in_bounds
 
 pub returns : goal.returns
 returns c =
-    rw (refusal-some _ _ c.if-days-k-eq0.false) c.put_two.ensures
+    rw (refusal-some _ _ c.if-days-k-eq0.false) c.put_row.ensures

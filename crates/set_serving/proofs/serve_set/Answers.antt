@@ -1,7 +1,7 @@
 -- `set_serving::serve_set` meets its contract: the set costs too much, or it is tried at its price.
 use mathlib.Core.Path.{subst}
-use Prim.Native.Nat.{◌<◌, ◌+◌, ◌-◌, ◌*◌}
-use lib.ListN.{get_or}
+use Prim.Native.Nat.{◌<◌, ◌+◌, ◌-◌}
+use Rattle.held_plans.specs.Words.{plan_at}
 use Rattle.set_serving.specs.Turns.{turn_dearer}
 use Rattle.set_serving.proofs.serve_set.Goals as goal
 
@@ -11,6 +11,6 @@ returns-then-is_dearer c =
     let dearer = c.is_dearer.ensures c.if-is_dearer.true in (
       c.requires.5,
       λ d i right plan windows g.
-          turn_dearer a.sizes d _ _ right a.j i a.s _ plan c.requires.2 c.requires.3 g dearer.0 dearer.1 c.requires.0.some_width
-          (subst (λ v. get_or a.next.now ((a.gathered.count - 1) * 16) 0 < get_or a.plan.now 0 0 + v) c.price_of-price.ensures.1 dearer.2),
+          turn_dearer a.day.now d right a.j i a.s _ plan c.requires.2 c.requires.3 g dearer.0 c.requires.0.some_width
+          (subst (λ v. (plan_at a.next.now.plans (a.next.now.count - 1)).cost < a.plan.now.cost + v) c.price_of-price.ensures.1 dearer.1),
     )

@@ -5,7 +5,8 @@ use native.Mathlib.Omega.{arith}
 use Rattle.optimum.specs.Stages.{tab, choice}
 use Rattle.optimum.specs.Layers.{Table}
 use Rattle.optimum.proofs.Layers.{table-cell, stage_start, stage_next, stage_pass, stage_end, solved_reads}
-use Rattle.staging.specs.Tables.{Tables, tables_of, no_cost, from_tables, key_from_tables}
+use Rattle.staging.specs.Tables.{Tables, no_cost, from_tables, key_from_tables}
+use Rattle.cells.specs.Lent.{lent}
 use Rattle.staging.specs.Reachable.{Reachable}
 use Rattle.staging.proofs.Reachable.{reachable_all}
 use Rattle.cells.specs.Given.{given_less}
@@ -14,40 +15,40 @@ use Rattle.slot_filling.proofs.fill_first.Goals as goal
 use Rattle.slot_filling.proofs.fill_first.Goals.{Start}
 
 abbrev given : Start → Tables
-given s = let z = s.args in tables_of z.need.now z.late.now z.price.now z.count.now z.opens.now
+given s = let z = s.args in lent z.tables.now
 
 module _ (s : Start) where
   -- the second slot's table, which the cell reads
   reads : Table (from_tables (given s)) (key_from_tables (given s)) no_cost
-      (Reachable s.args.size s.args.tracks) s.args.size (s.args.slots - 1) 1 s.args.cost.now
-  reads = solved_reads 0 s.requires.4 refl
+      (Reachable s.args.sizes.sets s.args.sizes.tracks) s.args.sizes.sets (s.args.sizes.slots - 1) 1 s.args.cost.now
+  reads = solved_reads 0 s.requires.1 refl
 
-  all : Reachable s.args.size s.args.tracks 0 (s.args.size - 1)
-  all = reachable_all s.args.size s.args.tracks
+  all : Reachable s.args.sizes.sets s.args.sizes.tracks 0 (s.args.sizes.sets - 1)
+  all = reachable_all s.args.sizes.sets s.args.sizes.tracks
 
-  last : s.args.size - 1 < s.args.size
-  last = omega (arith, s.requires.0.sets)
+  last : s.args.sizes.sets - 1 < s.args.sizes.sets
+  last = omega (arith, s.requires.0.tables.sets)
 
 pub cheapest-p-requires : goal.cheapest-p-requires
 cheapest-p-requires c =
     let s = c in
     let r = last (goal.at.cheapest-p-requires s).Start in
-    let g = s.requires.0 in (
+    let g = s.requires.0.tables in (
       given_less _ _ g (omega arith, omega arith) (omega arith, g.stages.0),
-      table_rests g (reads (goal.at.cheapest-p-requires s).Start) s.requires.1 (all (goal.at.cheapest-p-requires s).Start) g.stages.0 r (omega arith) s.requires.2,
+      table_rests g (reads (goal.at.cheapest-p-requires s).Start) s.requires.0.room (all (goal.at.cheapest-p-requires s).Start) g.stages.0 r (omega arith) s.requires.0.costs,
     )
 
 pub returns : goal.returns
 returns c =
     let s = c in
     let z = s.args in
-    let r = z.size - 1 in
+    let r = z.sizes.sets - 1 in
     let ok = from_tables (given (goal.at.returns s).Start) in
     let w = key_from_tables (given (goal.at.returns s).Start) in
-    let slots = s.requires.0.stages.0 in
-    let left : suc (z.slots - 1) ≡ z.slots - 0 = omega arith in
-    let (v, u) = table-cell r (reads (goal.at.returns s).Start) (last (goal.at.returns s).Start) (λ q hq may. leaves_reachable s.requires.0 q s.requires.1 (last (goal.at.returns s).Start) (all (goal.at.returns s).Start) hq may) in
-    let put = stage_next r r _ _ (stage_start 0 s.requires.4 refl) (omega (arith, last (goal.at.returns s).Start)) (omega arith) slots s.requires.2 s.requires.3 (
+    let slots = s.requires.0.tables.stages.0 in
+    let left : suc (z.sizes.slots - 1) ≡ z.sizes.slots - 0 = omega arith in
+    let (v, u) = table-cell r (reads (goal.at.returns s).Start) (last (goal.at.returns s).Start) (λ q hq may. leaves_reachable s.requires.0.tables q s.requires.0.room (last (goal.at.returns s).Start) (all (goal.at.returns s).Start) hq may) in
+    let put = stage_next r r _ _ (stage_start 0 s.requires.1 refl) (omega (arith, last (goal.at.returns s).Start)) (omega arith) slots s.requires.0.costs s.requires.0.choices (
       c.cheapest-p.ensures.0 ∙ v ∙ ap (λ k. tab ok w no_cost k 1 r) left,
       c.cheapest-p.ensures.1 ∙ u ∙ ap (λ k. choice ok w no_cost k 1 r) left,
     ) in

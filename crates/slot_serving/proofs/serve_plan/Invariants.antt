@@ -8,8 +8,8 @@ use Rattle.slot_serving.proofs.serve_plan.Given as goal
 
 abbrev pub invariant-loop-s : goal.invariant-loop-s
 invariant-loop-s l =
-    Sub l.s l.can × (ones l.s ≤ l.sizes.tracks) × PlanArray l.sizes (l.j + 1) l.next l.held.count
-    × ServesAbove l.sizes l.boxes l.ends l.plan l.j l.ready l.s l.initial.next l.initial.held.count l.initial.held.dropped l.next l.held.count l.held.dropped
+    Sub l.s l.can × (ones l.s ≤ l.day.sizes.tracks) × PlanArray l.day (l.j + 1) l.next
+    × ServesAbove l.day l.plan l.j l.ready l.s l.initial.next l.next
 
 abbrev pub decreases-loop-s : goal.decreases-loop-s
 decreases-loop-s l = l.s

@@ -1,13 +1,9 @@
 -- `slot_serving::serve_slot` meets its contract. The loop's invariant: the plans before place k are served.
-use Prim.Native.Nat.{◌≤◌, ◌+◌, ◌-◌}
+use Prim.Native.Nat.{◌≤◌, ◌+◌}
 use Rattle.set_serving.specs.Serving.{PlanArray}
 use Rattle.slot_serving.specs.Serving.{ServesBefore}
 use Rattle.slot_serving.proofs.serve_slot.Given as goal
 
-abbrev pub invariant-loop-k : goal.invariant-loop-k
-invariant-loop-k l =
-    (l.k ≤ l.count) × PlanArray l.sizes (l.j + 1) l.next l.held.count
-    × ServesBefore l.sizes l.boxes l.ends l.j l.ready l.k l.kept l.count l.next l.held.count l.held.dropped
-
-abbrev pub decreases-loop-k : goal.decreases-loop-k
-decreases-loop-k l = l.count - l.k
+abbrev pub invariant-loop-plan : goal.invariant-loop-plan
+invariant-loop-plan l =
+    (l.plan-index ≤ l.kept.count) × PlanArray l.day (l.j + 1) l.next × ServesBefore l.day l.j l.ready l.plan-index l.kept l.next

@@ -1,9 +1,14 @@
-use native.Mathlib.Omega.{arith}
-use Rattle.slot_times.proofs.Laws.{is_first}
+-- `slot_times::first_slot` meets its contract: the first of the used slots that starts at or after arrival.
+use Rattle.std.proofs.Common.{ℕ, Bool, ◌∙◌, rules}
+use Rattle.fold.proofs.Ranges.{first_from_inclusive}
+use Rattle.slot_times.specs.Slots.{starts_in_time, first_slot}
+use Rattle.slot_times.proofs.Choice.{earliest_found}
 use Rattle.slot_times.proofs.first_slot.Goals as goal
 
-pub returns-else-opens-k : goal.returns-else-opens-k
-returns-else-opens-k c = let inv = c.loop-k.invariant in is_first _ _ _ _ _ inv.0 inv.1 inv.2 (λ inside. c.if-opens-k.false)
-
-pub returns-after-loop-k : goal.returns-after-loop-k
-returns-after-loop-k c = let inv = c.loop-k.invariant in is_first _ _ _ _ _ inv.0 inv.1 inv.2 (λ inside. omega arith)
+pub returns : goal.returns
+unfolding first_slot
+returns c =
+    let p : ℕ → Bool = starts_in_time c.args.opens c.args.length c.args.arrival in
+    c.unwrap_or.ensures
+    ∙ earliest_found c.args.used p c.find.result
+    (first_from_inclusive c.new.result 1 c.args.used c.new.ensures.start c.new.ensures.end c.new.ensures.exhausted _ _ p (λ a r f k. search rules) (λ x r k. search rules) c.find.result c.find.ensures.runs)

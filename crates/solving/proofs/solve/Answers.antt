@@ -1,35 +1,26 @@
-use mathlib.Core.Path.{◌≡◌, refl, ◌∙◌}
-use native.Mathlib.Omega.{arith}
-use lib.ListN.{length}
+use Rattle.std.proofs.Common.{refl, ◌∙◌, arith}
 use Rattle.optimum.proofs.Layers.{solved_here, solved_then}
-use Rattle.slot_filling.specs.Laws.{later_next}
+use Rattle.slot_filling.specs.Laws.{later_next, fillable_still}
 use Rattle.solving.proofs.solve.Goals as goal
-use Rattle.solving.proofs.solve.Goals.{At-loop-j}
-
--- the workspaces are still as long
-module _ (c : At-loop-j) where
-  costs : length c.loop-j.cost ≡ length c.args.cost.now
-  costs = c.loop-j.invariant.0.kept.long ∙ c.fill_last.ensures.kept.long
-
-  choices : length c.loop-j.choice ≡ length c.args.choice.now
-  choices = c.loop-j.invariant.0.choices.kept.long ∙ c.fill_last.ensures.choices.kept.long
 
 pub fill_slot-requires : goal.fill_slot-requires
 fill_slot-requires c =
-    let a = c in
-    let s = a in (
-      s.requires.0,
-      s.requires.1,
-      later_next _ a.loop-j.invariant.1 (omega arith),
+    let i = c.loop-j.invariant in (
+      fillable_still c.requires (c.loop-j.auto.cost ∙ c.fill_last.auto.cost) (c.loop-j.auto.choice ∙ c.fill_last.auto.choice),
+      later_next _ i.windows (omega arith),
       omega arith,
-      omega (arith, a.loop-j.invariant.0.within),
-      omega (arith, costs (goal.at.fill_slot-requires a).At-loop-j, s.requires.2),
-      omega (arith, choices (goal.at.fill_slot-requires a).At-loop-j, s.requires.3),
-      solved_here _ a.loop-j.invariant.0 (omega arith),
+      omega (arith, i.solved.within),
+      solved_here _ i.solved (omega arith),
     )
 
 pub loop-j-preserved : goal.loop-j-preserved
 loop-j-preserved c =
-    let f = c in
-    let a = f in
-    (solved_then _ a.loop-j.invariant.0 f.fill_slot.ensures refl, later_next _ a.loop-j.invariant.1 (omega arith))
+    let i = c.loop-j.invariant in
+    record { solved = solved_then _ i.solved c.fill_slot.ensures refl; windows = later_next _ i.windows (omega arith); first = λ p. omega arith }
+
+pub fill_first-requires : goal.fill_first-requires
+fill_first-requires c =
+    let i = c.loop-j.invariant in (
+      fillable_still c.requires (c.loop-j.auto.cost ∙ c.fill_last.auto.cost) (c.loop-j.auto.choice ∙ c.fill_last.auto.choice),
+      solved_here 1 i.solved (omega (arith, i.first)),
+    )

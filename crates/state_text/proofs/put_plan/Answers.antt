@@ -1,6 +1,5 @@
 -- `state_text::put_plan` meets its contract. The row has as many slots as the state has trains, and no more than twelve.
 use Rattle.std.specs.Prelude.{length, ◌≤◌}
-use Rattle.std.proofs.Math.Path.{sym}
 use native.Mathlib.Omega.{arith}
 use lib.Seq.{length-take-le}
 use Rattle.rolling.specs.Rolling.{plan_of}
@@ -9,11 +8,8 @@ use Rattle.rolling_state.specs.States.{state_in}
 use Rattle.output.specs.Laws.{put_list}
 use Rattle.state_text.proofs.put_plan.Goals as goal
 
-pub slice_bounds-row-end : goal.slice_bounds-row-end
-slice_bounds-row-end c = omega (arith, (few_trains (state_in c.args.state) c.requires.0).0)
-
-pub slice_bounds-put_bytes-end : goal.slice_bounds-put_bytes-end
-slice_bounds-put_bytes-end c = sym (length-take-le _ _ (omega (arith, (few_trains (state_in c.args.state) c.requires.0).0)))
+pub shared_ref_as_front-put_bytes : goal.shared_ref_as_front-put_bytes
+shared_ref_as_front-put_bytes c = omega (arith, (few_trains (state_in c.args.state) c.requires.0).0)
 
 pub returns : goal.returns
 returns c =

@@ -1,13 +1,8 @@
-use Prim.Native.Nat.{◌+◌}
-use mathlib.Core.Path.{ap}
-use borrow.Author.Rules.{rules}
-use native.Mathlib.Omega.{arith}
-use Rattle.tables.specs.Filled.{added_next}
+use Rattle.std.proofs.Common.{arith}
+use Rattle.tables.specs.Doubled.{doubled_next}
 use Rattle.tables.proofs.add_train.Goals as goal
 
 pub loop-m-preserved : goal.loop-m-preserved
-loop-m-preserved c =
-    let l = c.loop-m in
-    let long = l.invariant.1.kept.long in
-    let same = l.invariant.1.old l.m c.loop-m-test.true in
-    (search rules, added_next _ l.invariant.1 (omega arith) (ap (λ x. x + 1) same))
+loop-m-preserved g c =
+    let i = c.loop-m.invariant in
+    doubled_next c.index-table-m.result c.with_train.result i c.loop-m-test.true (omega (arith, i.long, c.requires.room)) c.index-table-m.is c.with_train.ensures

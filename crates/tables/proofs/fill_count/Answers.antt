@@ -1,42 +1,34 @@
-use Prim.Native.Nat.{◌≤◌, ◌+◌, ◌^◌}
-use mathlib.Core.Path.{ap, ◌∙◌}
-use borrow.Author.Rules.{rules}
-use native.Mathlib.Omega.{arith}
-use native.Mathlib.Numerals.{add-one}
-use native.Mathlib.Nat.{pow-suc}
-use lib.Count.{ones, ones-le}
-use lib.ListN.{length, set}
-use lib.Pow.{pow_pos}
+use Rattle.std.proofs.Common.{◌≤◌, ◌<◌, get_or, length, subst, ◌^◌, pow_pos, arith, rules}
+use Rattle.std.specs.Int.Count.{ones}
+use Rattle.std.proofs.lemmas.Nat.{ones-le}
+use Rattle.std.proofs.lemmas.Grind.{get_or_default_zero}
 use Rattle.tables.specs.Filled.{Filled}
-use Rattle.tables.specs.Needing.{sets_fit}
 use Rattle.tables.specs.Counts.{count_first, count_next}
+use Rattle.tables.specs.Needing.{sets_fit, sets_shifted}
 use Rattle.tables.proofs.fill_count.Goals as goal
-use Rattle.tables.proofs.fill_count.Goals.{In-loop, Start}
 
--- the empty set alone
-first : (s : Start) → Filled ones 1 s.args.count.now (set s.args.count.now 0 0)
-first s = let some = pow_pos s.args.n in count_first _ (omega arith)
+pub loop-k-init : goal.loop-k-init
+loop-k-init c = let some = pow_pos c.args.n in count_first _ (omega arith)
 
--- there is room for as many sets more
-fits : (c : In-loop) → let l = c.loop in (l.size ≤ 4096) × (l.size + l.size ≤ length l.count)
-fits c =
-    let l = c.loop in
-    let s = c in
-    let room = sets_fit l.counter s.args.n l.size l.invariant.1 c.loop-test.true s.requires.0 in
-    let long = l.invariant.2.kept.long ∙ (first (goal.at.In-loop s).Start).kept.long in
-    omega arith
+pub add_train-requires-clause-room : goal.add_train-requires-clause-room
+add_train-requires-clause-room c =
+    let size = sets_shifted c.loop-k.k (omega arith) in
+    let room = sets_fit c.loop-k.k c.args.n _ size c.loop-k-test.true c.requires.0 in
+    omega (arith, c.loop-k.invariant.kept.long)
 
-pub add_train-requires : goal.add_train-requires
-add_train-requires c =
-    let l = c.loop in
-    let room = fits (goal.at.add_train-requires c).In-loop in (
-      room.0,
-      room.1,
-      λ m q. omega (arith, l.invariant.2.all m q, ones-le 12 m (omega arith)),
-    )
+pub add_train-requires-clause-callable : goal.add_train-requires-clause-callable
+add_train-requires-clause-callable c m d l =
+    let i = c.loop-k.invariant in
+    let size = sets_shifted c.loop-k.k (omega arith) in
+    let room = sets_fit c.loop-k.k c.args.n _ size c.loop-k-test.true c.requires.0 in
+    let short : m < length c.loop-k.count = omega (arith, i.kept.long) in
+    let few : get_or c.loop-k.count m d ≤ 12 = omega (arith, get_or_default_zero c.loop-k.count m d short, i.all m (omega arith), ones-le 12 m (omega arith)) in
+    λ κs p r s. omega arith
 
-pub loop-preserved : goal.loop-preserved
-loop-preserved c =
-    let l = c.loop in
-    let twice = ap (λ x. 2 ^ x) (add-one l.counter) ∙ pow-suc 2 l.counter in
-    (search rules, omega (arith, l.invariant.1), count_next l.counter l.size l.invariant.2 l.invariant.1 c.add_train.ensures)
+pub loop-k-preserved : goal.loop-k-preserved
+loop-k-preserved c =
+    let size = sets_shifted c.loop-k.k (omega arith) in
+    count_next c.loop-k.k _ c.loop-k.invariant size c.add_train.ensures (λ x v r. search rules)
+
+pub returns : goal.returns
+returns c = subst (λ k. Filled ones (2 ^ k) c.args.count.now c.loop-k.count) (omega arith) c.loop-k.invariant

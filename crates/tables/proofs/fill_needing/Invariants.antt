@@ -1,13 +1,9 @@
--- `tables::fill_needing` meets its contract. The loop's invariant: the table is filled for the `size` sets of the trains passed.
-use Prim.Native.Nat.{◌≤◌, ◌-◌, ◌^◌}
-use mathlib.Core.Path.{◌≡◌}
-use Rattle.model.specs.Model.{cell}
+-- `tables::fill_needing` meets its contract. The loop's invariant: the table is filled for the sets of the trains passed.
+use Rattle.std.proofs.Common.{◌^◌}
 use Rattle.staging.specs.Tables.{needing}
+use Rattle.tables.specs.Given.{boxes_of}
 use Rattle.tables.specs.Filled.{Filled}
 use Rattle.tables.proofs.fill_needing.Given as goal
 
 abbrev pub invariant-loop-k : goal.invariant-loop-k
-invariant-loop-k l = (l.k ≤ l.n) × (l.size ≡ 2 ^ l.k) × Filled (needing l.n (cell l.width l.boxes)) l.size l.initial.need l.need
-
-abbrev pub decreases-loop-k : goal.decreases-loop-k
-decreases-loop-k l = l.n - l.k
+invariant-loop-k l = Filled (needing l.supplies.trains (boxes_of l.supplies)) (2 ^ l.k) l.fn.need l.need

@@ -1,11 +1,7 @@
 -- `tables::open_in` meets its contract. The loop's invariant: the mask of the trains passed whose windows hold the slot.
-use Prim.Native.Nat.{◌≤◌, ◌-◌}
-use mathlib.Core.Path.{◌≡◌}
+use Rattle.std.proofs.Common.{◌≡◌}
 use Rattle.staging.specs.Tables.{open_in}
 use Rattle.tables.proofs.open_in.Given as goal
 
 abbrev pub invariant-loop-i : goal.invariant-loop-i
-invariant-loop-i l = (l.i ≤ l.n) × (l.mask ≡ open_in l.i l.first l.last l.t)
-
-abbrev pub decreases-loop-i : goal.decreases-loop-i
-decreases-loop-i l = l.n - l.i
+invariant-loop-i l = l.mask ≡ open_in l.i l.first l.last l.t

@@ -1,12 +1,8 @@
 -- `tables::receivers_of` meets its contract. The loop's invariant: the mask of the receivers passed.
-use Prim.Native.Nat.{◌≤◌, ◌-◌}
-use mathlib.Core.Path.{◌≡◌}
-use Rattle.model.specs.Model.{cell}
+use Rattle.std.proofs.Common.{◌≡◌}
+use Rattle.tables.specs.Given.{boxes_of}
 use Rattle.tables.specs.Entries.{receivers}
 use Rattle.tables.proofs.receivers_of.Given as goal
 
 abbrev pub invariant-loop-i : goal.invariant-loop-i
-invariant-loop-i l = (l.i ≤ l.n) × (l.mask ≡ receivers l.i (cell l.width l.boxes) l.k)
-
-abbrev pub decreases-loop-i : goal.decreases-loop-i
-decreases-loop-i l = l.n - l.i
+invariant-loop-i l = l.mask ≡ receivers l.i (boxes_of l.supplies) l.k

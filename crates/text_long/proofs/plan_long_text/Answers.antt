@@ -16,20 +16,16 @@ returns-then-numbers-lt6 c =
     let p = plans_nothing a.text.now a.width a.row.now a.numbers.now (lt-leb long_number_count _ c.if-numbers-lt6.true) in
     record { value = p.says; numbers_after = p.numbers_are_lem; row_after = p.row_is; trains_after = p.written }
 
-pub returns-in-Accepted : goal.returns-in-Accepted
-returns-in-Accepted c =
+pub returns-in-Ok : goal.returns-in-Ok
+returns-in-Ok c =
     let a = c.args in
     let room : leb long_number_count (length a.numbers.now) ≡ true = le-leb long_number_count _ c.if-numbers-lt6.false in
-    let d = c.read_long_day-reading in
-    let accepted : read_day long_limits a.text.now ≡ gives (long_yard d.result.day) = sym d.ensures.0 ∙ ap (λ v. judged v (long_yard d.result.day)) c.in-Accepted.is in
-    let p = plans_day a.text.now a.width a.row.now a.numbers.now (long_yard d.result.day) room accepted c.plan_long_day.ensures in
+    let p = plans_day a.text.now a.width a.row.now a.numbers.now (long_yard c.in-Ok.day) room (sym c.in-Ok.ensures) c.plan_long_day.ensures in
     record { value = p.says; numbers_after = p.numbers_are_lem; row_after = p.row_is; trains_after = p.written }
 
-pub returns-in-Refused : goal.returns-in-Refused
-returns-in-Refused c =
+pub returns-in-Err : goal.returns-in-Err
+returns-in-Err c =
     let a = c.args in
     let room : leb long_number_count (length a.numbers.now) ≡ true = le-leb long_number_count _ c.if-numbers-lt6.false in
-    let d = c.read_long_day-reading in
-    let refused : read_day long_limits a.text.now ≡ refusal c.in-Refused.refusal = sym d.ensures.0 ∙ ap (λ v. judged v (long_yard d.result.day)) c.in-Refused.is in
-    let p = plans_refused a.text.now a.width a.row.now a.numbers.now c.in-Refused.refusal room refused c.tell_long.ensures in
+    let p = plans_refused a.text.now a.width a.row.now a.numbers.now c.in-Err.refusal room (sym c.in-Err.ensures) c.tell_long.ensures in
     record { value = p.says; numbers_after = p.numbers_are_lem; row_after = p.row_is; trains_after = p.written }

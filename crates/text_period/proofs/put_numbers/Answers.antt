@@ -1,6 +1,6 @@
-use Rattle.output.specs.Laws.{put_next}
-use borrow.Author.Rules.{rules}
+use Rattle.std.proofs.Common.{arith}
+use Rattle.output.proofs.Stored.{put_copy}
 use Rattle.text_period.proofs.put_numbers.Goals as goal
 
-pub loop-i-preserved : goal.loop-i-preserved
-loop-i-preserved c = (search rules, search rules, put_next _ _ c.loop-i-test.true c.loop-i.invariant.2)
+pub returns : goal.returns
+returns c = put_copy _ _ _ _ _ c.requires c.copy_from_slice.ensures.after (omega arith)

@@ -15,20 +15,16 @@ returns-then-not-is_room c =
     let p = plans_nothing day_limits a.text.now a.cost.now a.choice.now a.row.now a.numbers.now (sym c.is_room.ensures ∙ c.if-not-is_room.true) in
     record { value = p.says; numbers_after = p.numbers_are_lem; row_after = p.row_is; trains_after = p.written; stays = p.costs; stays_2 = p.choices }
 
-pub returns-in-Accepted : goal.returns-in-Accepted
-returns-in-Accepted c =
+pub returns-in-Ok : goal.returns-in-Ok
+returns-in-Ok c =
     let a = c.args in
     let room : leb number_count (length c.args.numbers.now) ≡ true = sym c.is_room.ensures ∙ c.if-not-is_room.false in
-    let d = c.read_day-reading in
-    let accepted : read_day day_limits c.args.text.now ≡ gives (yard c.read_day-reading.result.day) = sym d.ensures.0 ∙ ap (λ v. judged v (yard d.result.day)) c.in-Accepted.is in
-    let p = plans_day day_limits a.text.now a.cost.now a.choice.now a.row.now a.numbers.now (yard d.result.day) room accepted c.plan_day.ensures in
+    let p = plans_day day_limits a.text.now a.cost.now a.choice.now a.row.now a.numbers.now (yard c.in-Ok.day) room (sym c.in-Ok.ensures) c.plan_day.ensures in
     record { value = p.says; numbers_after = p.numbers_are_lem; row_after = p.row_is; trains_after = p.written; stays = p.costs; stays_2 = p.choices }
 
-pub returns-in-Refused : goal.returns-in-Refused
-returns-in-Refused c =
+pub returns-in-Err : goal.returns-in-Err
+returns-in-Err c =
     let a = c.args in
     let room : leb number_count (length c.args.numbers.now) ≡ true = sym c.is_room.ensures ∙ c.if-not-is_room.false in
-    let d = c.read_day-reading in
-    let refused : read_day day_limits c.args.text.now ≡ refusal c.in-Refused.refusal = sym d.ensures.0 ∙ ap (λ v. judged v (yard d.result.day)) c.in-Refused.is in
-    let p = plans_refused day_limits a.text.now a.cost.now a.choice.now a.row.now a.numbers.now c.in-Refused.refusal room refused c.tell.ensures in
+    let p = plans_refused day_limits a.text.now a.cost.now a.choice.now a.row.now a.numbers.now c.in-Err.refusal room (sym c.in-Err.ensures) c.tell.ensures in
     record { value = p.says; numbers_after = p.numbers_are_lem; row_after = p.row_is; trains_after = p.written; stays = p.costs; stays_2 = p.choices }

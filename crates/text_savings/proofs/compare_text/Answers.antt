@@ -19,24 +19,20 @@ returns-then-not-is_room c =
     let told = no_saving day_limits s.text.now s.numbers.now (row_by s.procedure) (sym c.is_room.ensures ∙ c.if-not-is_room.true) in
     record { value = told.0; numbers_after = told.1.0; saving_after = told.1.1 }
 
-pub returns-in-Accepted : goal.returns-in-Accepted
-returns-in-Accepted c =
+pub returns-in-Ok : goal.returns-in-Ok
+returns-in-Ok c =
     let room : leb number_count (length c.args.numbers.now) ≡ true = sym c.is_room.ensures ∙ c.if-not-is_room.false in
-    let accepted : gives (yard c.read_day-reading.result.day) ≡ read_day day_limits c.args.text.now = let d = c.read_day-reading in
-    sym (ap (λ v. judged v (yard d.result.day)) c.in-Accepted.is) ∙ d.ensures.0 in
     let s = c.args in
     let row = row_by s.procedure in
-    let e = sym (ap (λ r. on_given r λ y. compared day_limits y (row y) cost_area choice_area) accepted) in
+    let e = sym (ap (λ r. on_given r λ y. compared day_limits y (row y) cost_area choice_area) c.in-Ok.ensures) in
     let told = told-saving day_limits s.text.now s.numbers.now row room e c.compare_day.ensures in
     record { value = told.0; numbers_after = told.1.0; saving_after = told.1.1 }
 
-pub returns-in-Refused : goal.returns-in-Refused
-returns-in-Refused c =
+pub returns-in-Err : goal.returns-in-Err
+returns-in-Err c =
     let room : leb number_count (length c.args.numbers.now) ≡ true = sym c.is_room.ensures ∙ c.if-not-is_room.false in
-    let refused : refusal c.in-Refused.refusal ≡ read_day day_limits c.args.text.now = let d = c.read_day-reading in
-    sym (ap (λ v. judged v (yard d.result.day)) c.in-Refused.is) ∙ d.ensures.0 in
     let s = c.args in
     let row = row_by s.procedure in
-    let e = sym (ap (λ r. on_given r λ y. compared day_limits y (row y) cost_area choice_area) refused) in
-    let told = told-saving day_limits s.text.now s.numbers.now row room e (told_refused c.in-Refused.refusal c.tell.ensures) in
+    let e = sym (ap (λ r. on_given r λ y. compared day_limits y (row y) cost_area choice_area) c.in-Err.ensures) in
+    let told = told-saving day_limits s.text.now s.numbers.now row room e (told_refused c.in-Err.refusal c.tell.ensures) in
     record { value = told.0; numbers_after = told.1.0; saving_after = told.1.1 }

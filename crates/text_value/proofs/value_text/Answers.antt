@@ -1,14 +1,6 @@
--- `text_value::value_text` meets its contract. The room, then the two cases of reading.
--- where the function began, from the place past the test of the room; that place, from the two cases of reading
-use mathlib.Core.Path.{◌≡◌, sym, ap, ◌∙◌}
-use mathlib.Core.Bool.{true}
-use lib.Dec.{leb}
-use lib.ListN.{length}
-use Rattle.day.specs.Answer.{gives, refusal, on_given, judged}
-use Rattle.day.specs.Sound.{day_limits, yard}
-use Rattle.dayfile.specs.Reading.{read_day}
-use Rattle.valuing.specs.Valuing.{valued}
-use Rattle.telling.specs.Telling.{number_count}
+-- The room, then what the text comes to.
+use Rattle.std.proofs.Common.{sym, ◌∙◌}
+use Rattle.day.specs.Sound.{day_limits}
 use Rattle.text_value.specs.Laws.{no_value, told-value}
 use Rattle.text_value.proofs.value_text.Goals as goal
 
@@ -17,22 +9,8 @@ returns-then-not-is_room c =
     let told = no_value _ _ _ _ (sym c.is_room.ensures ∙ c.if-not-is_room.true) in
     record { value = told.0; numbers_after = told.1 }
 
-pub returns-in-Accepted : goal.returns-in-Accepted
-returns-in-Accepted c =
-    let room : leb number_count (length c.args.numbers.now) ≡ true = sym c.is_room.ensures ∙ c.if-not-is_room.false in
-    let accepted : gives (yard c.read_day-reading.result.day) ≡ read_day day_limits c.args.text.now = let d = c.read_day-reading in
-    sym (ap (λ v. judged v (yard d.result.day)) c.in-Accepted.is) ∙ d.ensures.0 in
+pub returns : goal.returns
+returns c =
     let s = c.args in
-    let e = sym (ap (λ r. on_given r λ y. valued day_limits y s.row.now) accepted) in
-    let told = told-value day_limits s.text.now s.numbers.now s.row.now room e c.value_day.ensures in
-    record { value = told.0; numbers_after = told.1 }
-
-pub returns-in-Refused : goal.returns-in-Refused
-returns-in-Refused c =
-    let room : leb number_count (length c.args.numbers.now) ≡ true = sym c.is_room.ensures ∙ c.if-not-is_room.false in
-    let refused : refusal c.in-Refused.refusal ≡ read_day day_limits c.args.text.now = let d = c.read_day-reading in
-    sym (ap (λ v. judged v (yard d.result.day)) c.in-Refused.is) ∙ d.ensures.0 in
-    let s = c.args in
-    let e = sym (ap (λ r. on_given r λ y. valued day_limits y s.row.now) refused) in
-    let told = told-value day_limits s.text.now s.numbers.now s.row.now room e c.tell.ensures in
+    let told = told-value day_limits s.text.now s.numbers.now s.row.now (sym c.is_room.ensures ∙ c.if-not-is_room.false) (sym c.value_on.ensures) c.tell_valued.ensures in
     record { value = told.0; numbers_after = told.1 }

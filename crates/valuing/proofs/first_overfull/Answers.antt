@@ -1,18 +1,17 @@
-use Rattle.valuing.proofs.Laws.{overfull_is}
-use mathlib.Core.Path.{sym, ap, ◌∙◌}
-use mathlib.Core.Bool.{not}
-use borrow.Author.Rules.{rules}
-use Rattle.fold.specs.Fold.{no_some, none_next, none_end, lowest-found, lowest_none}
+use Rattle.std.specs.Prelude.{◌≡◌, ℕ, Bool, ◌<◌, Option, Some, None, IfSome}
+use Rattle.std.proofs.Common.{rules, add-one, arith}
+use Rattle.fold.specs.First.{first_below, first_below-is}
+use Rattle.fold.proofs.Chains.{find_first}
+use Rattle.valuing.specs.Valuing.{overfull}
 use Rattle.valuing.proofs.first_overfull.Goals as goal
 
-pub loop-t-init : goal.loop-t-init
-loop-t-init c = (search rules, no_some _)
+pub returns-clause-lowest : goal.returns-clause-lowest
+unfolding overfull
+returns-clause-lowest c = find_first _ _ _ _ _ c.find.ensures.ran (λ x q k. search (rules, add-one)) (λ x q k. search (rules, add-one))
 
-pub returns-then-not-is_roomy : goal.returns-then-not-is_roomy
-returns-then-not-is_roomy c = sym (lowest-found _ _ _ (search rules) c.loop-t.invariant.1 (overfull_is _ _ _ _ c.is_roomy.ensures ∙ ap not c.if-not-is_roomy.true))
+small : (n : ℕ) (p : ℕ → Bool) (o : Option ℕ) → o ≡ first_below n p → n < 256 → IfSome o (λ t. t < 255)
+small n p None e h = tt
+small n p (Some t) e h = omega (arith, first_below-is n p t e)
 
-pub loop-t-preserved : goal.loop-t-preserved
-loop-t-preserved c = (search rules, none_next _ _ c.loop-t.invariant.1 (overfull_is _ _ _ _ c.is_roomy.ensures ∙ ap not c.if-not-is_roomy.false))
-
-pub returns : goal.returns
-returns c = sym (lowest_none _ _ (none_end _ _ _ c.loop-t.invariant.0 c.loop-t-test.false c.loop-t.invariant.1))
+pub returns-clause-small : goal.returns-clause-small
+returns-clause-small c = small _ _ _ (returns-clause-lowest c) c.ranges.slots.fits

@@ -1,20 +1,8 @@
-use mathlib.Core.Path.{sym, ap, ◌∙◌}
-use mathlib.Core.Bool.{not}
-use borrow.Author.Rules.{rules}
-use Rattle.fold.specs.Fold.{no_some, none_next, none_end, lowest-found, lowest_none}
+use Rattle.std.proofs.Common.{rules, ap, ◌∙◌, sym, not}
+use Rattle.fold.proofs.Chains.{find_first}
 use Rattle.valuing.specs.Valuing.{strays}
 use Rattle.valuing.proofs.first_stray.Goals as goal
 
-pub loop-i-init : goal.loop-i-init
-loop-i-init c = (search rules, no_some _)
-
-pub returns-then-not-is_in_window : goal.returns-then-not-is_in_window
-unfolding strays
-returns-then-not-is_in_window c = sym (lowest-found _ _ _ (search rules) c.loop-i.invariant.1 (ap not (sym c.is_in_window.ensures) ∙ ap not c.if-not-is_in_window.true))
-
-pub loop-i-preserved : goal.loop-i-preserved
-unfolding strays
-loop-i-preserved c = (search rules, none_next _ _ c.loop-i.invariant.1 (ap not (sym c.is_in_window.ensures) ∙ ap not c.if-not-is_in_window.false))
-
 pub returns : goal.returns
-returns c = sym (lowest_none _ _ (none_end _ _ _ c.loop-i.invariant.0 c.loop-i-test.false c.loop-i.invariant.1))
+unfolding strays
+returns c = find_first _ _ _ _ _ c.find.ensures.ran (λ x q k. search rules) (λ x q k. search rules)

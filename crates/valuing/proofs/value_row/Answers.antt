@@ -1,45 +1,39 @@
--- `valuing::value_row` meets its contract. Each return is one of the laws `says-..` of specs/Laws.antt, from the checks passed before it.
-use mathlib.Core.Path.{ap, ◌∙◌}
-use mathlib.Core.List.{[]}
-use Prim.Native.Nat.{◌≤◌}
-use native.Mathlib.Omega.{arith}
-use Rattle.fold.specs.Fold.{lowest}
+-- Each return is one of the laws `says-..` of proofs/Laws.antt, from the checks passed before it.
+use Rattle.std.proofs.Common.{ap, ◌∙◌, arith}
+use Rattle.fold.specs.First.{first_below-is, first_below-none}
 use Rattle.day.specs.Answer.{gives}
-use Rattle.day.specs.Sound.{day_from}
-use Rattle.valuing.specs.Valuing.{strays, overfull}
+use Rattle.day.specs.Parts.{part_yard}
 use Rattle.valuing.proofs.Laws.{says_length, says_stray, says_overfull, says_parted, says_values}
 use Rattle.valuing.proofs.value_row.Goals as goal
 
 pub returns-then-row-n : goal.returns-then-row-n
-returns-then-row-n c =
-    let y = day_from c.args.head [] c.args.first.now c.args.last.now c.args.groups.now c.args.l.trains c.args.boxes.now in
-    says_length c.args.l y c.args.row.now c.if-row-n.true
+returns-then-row-n c = says_length _ (part_yard c.args.p.now) _ c.if-row-n.true
 
-pub returns-then-stray-n : goal.returns-then-stray-n
-returns-then-stray-n c =
-    let y = day_from c.args.head [] c.args.first.now c.args.last.now c.args.groups.now c.args.l.trains c.args.boxes.now in
-    says_stray c.args.l y c.args.row.now c.if-row-n.false _ c.first_stray-stray.ensures c.if-stray-n.true
+pub overflow_add-result : goal.overflow_add-result
+overflow_add-result c = omega (arith, first_below-is _ _ _ c.in-Some.ensures)
+
+pub returns-in-Some : goal.returns-in-Some
+returns-in-Some c =
+    let (is, below) = first_below-is _ _ _ c.in-Some.ensures in
+    says_stray _ (part_yard c.args.p.now) _ c.if-row-n.false _ is below
+
+pub overflow_add-result-in-Some-first_overfull : goal.overflow_add-result-in-Some-first_overfull
+overflow_add-result-in-Some-first_overfull c = omega (arith, c.in-Some-first_overfull.ensures.small)
 
 -- past the second check no slot lies outside its window
-pub returns-then-full-head : goal.returns-then-full-head
-returns-then-full-head c =
-    let y = day_from c.args.head [] c.args.first.now c.args.last.now c.args.groups.now c.args.l.trains c.args.boxes.now in
-    let inside : c.args.head.trains ≤ lowest c.args.head.trains (strays c.args.first.now c.args.last.now c.args.row.now) = omega (arith, c.first_stray-stray.ensures) in
-    says_overfull c.args.l y c.args.row.now c.if-row-n.false inside _ c.first_overfull-full.ensures c.if-full-head.true
+pub returns-in-Some-first_overfull : goal.returns-in-Some-first_overfull
+returns-in-Some-first_overfull c =
+    let (is, below) = first_below-is _ _ _ c.in-Some-first_overfull.ensures.lowest in
+    says_overfull _ (part_yard c.args.p.now) _ c.if-row-n.false (first_below-none _ _ c.in_default.ensures) _ is below
 
 -- past the third no slot holds too many trains
-pub returns-then-parted-l : goal.returns-then-parted-l
-returns-then-parted-l c =
-    let y = day_from c.args.head [] c.args.first.now c.args.last.now c.args.groups.now c.args.l.trains c.args.boxes.now in
-    let inside : c.args.head.trains ≤ lowest c.args.head.trains (strays c.args.first.now c.args.last.now c.args.row.now) = omega (arith, c.first_stray-stray.ensures) in
-    let room : c.args.head.slots ≤ lowest c.args.head.slots (overfull c.args.head.trains c.args.head.tracks c.args.row.now) = omega (arith, c.first_overfull-full.ensures) in
-    says_parted c.args.l y c.args.row.now c.if-row-n.false inside room _ c.first_parted-parted.ensures c.if-parted-l.true
+pub returns-then-parted-p : goal.returns-then-parted-p
+returns-then-parted-p c =
+    says_parted _ (part_yard c.args.p.now) _ c.if-row-n.false (first_below-none _ _ c.in_default.ensures) (first_below-none _ _ c.in_default-first_overfull.ensures.lowest) _
+    c.first_parted-parted.ensures c.if-parted-p.true
 
 pub returns : goal.returns
 returns c =
-    let y = day_from c.args.head [] c.args.first.now c.args.last.now c.args.groups.now c.args.l.trains c.args.boxes.now in
-    let inside : c.args.head.trains ≤ lowest c.args.head.trains (strays c.args.first.now c.args.last.now c.args.row.now) = omega (arith, c.first_stray-stray.ensures) in
-    let room : c.args.head.slots ≤ lowest c.args.head.slots (overfull c.args.head.trains c.args.head.tracks c.args.row.now) = omega (arith, c.first_overfull-full.ensures) in
     ap gives c.value_slots.ensures
-    ∙ says_values c.args.l y c.args.row.now c.if-row-n.false inside room c.requires.groups_up_to
-    (omega (arith, c.first_parted-parted.ensures))
+    ∙ says_values _ (part_yard c.args.p.now) _ c.if-row-n.false (first_below-none _ _ c.in_default.ensures) (first_below-none _ _ c.in_default-first_overfull.ensures.lowest)
+    c.requires.groups_up_to (omega (arith, c.first_parted-parted.ensures))

@@ -1,19 +1,13 @@
-use mathlib.Core.Path.{sym}
-use borrow.Author.Rules.{rules}
-use Rattle.fold.specs.Fold.{no_some, none_next, none_end, some-found}
-use Rattle.model.specs.Model.{parted}
+-- `wagon_sets::is_parted` meets its contract: a test of the positions below n.
+use Rattle.std.proofs.Common.{ℕ, Bool, ◌&&◌, eqb, rules}
+use Rattle.fold.specs.Fold.{some}
+use Rattle.fold.proofs.Ranges.{any_in_range}
+use Rattle.model.specs.Model.{group_of, apart, parted}
 use Rattle.wagon_sets.proofs.is_parted.Goals as goal
-
-pub loop-i-init : goal.loop-i-init
-loop-i-init c = (search rules, no_some _)
-
-pub returns-then-groups-i : goal.returns-then-groups-i
-unfolding parted
-returns-then-groups-i c = sym (some-found _ _ _ (search rules) (rw c.leaves_member.ensures at c.if-groups-i.true))
-
-pub loop-i-preserved : goal.loop-i-preserved
-loop-i-preserved c = (search rules, none_next _ _ c.loop-i.invariant.1 (rw c.leaves_member.ensures at c.if-groups-i.false))
 
 pub returns : goal.returns
 unfolding parted
-returns c = sym (none_end _ _ _ c.loop-i.invariant.0 c.loop-i-test.false c.loop-i.invariant.1)
+returns c =
+    let a = c.args in
+    let left : ℕ → Bool = λ i. eqb (group_of a.groups.now i) a.g && some a.n (apart a.groups.now a.row.now i) in
+    any_in_range _ _ left a.n _ _ (search rules) (λ x r q k. search rules) c.any.result c.any.ensures.ran
