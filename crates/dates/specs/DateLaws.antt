@@ -1,5 +1,4 @@
--- A date field by field; month lengths, and the days before a year or a month as the code's loops sum them. What holds of every month is
--- tested over the table of lengths, for a leap year and another.
+-- A date field by field, and a number that is none of 1 to n.
 -- Assumes nothing.
 use Rattle.std.specs.Prelude.{◌≡◌, ℕ, zero, suc, ◌≤◌}
 use Rattle.dates.specs.declared.Date.{Date}

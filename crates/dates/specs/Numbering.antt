@@ -1,5 +1,5 @@
--- There are 36,525 dates: dates and the numbers below 36,525 correspond, by the day number one way and by counting on from the first
--- date the other way. So each date but the last has one next.
+-- The dates counted on from the first. That dates and the numbers below 36,525 correspond, by the day number one way and by this the other
+-- way, is proved in proofs/.
 -- Assumes nothing.
 use Rattle.std.specs.Prelude.{ℕ, zero, suc}
 use Rattle.dates.specs.declared.Date.{Date}

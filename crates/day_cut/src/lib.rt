@@ -45,11 +45,11 @@ pub fn served_slots(row: &[u8], n: usize, closed: u8) -> [u8; 12]
 
 // ---- the windows that are left
 
-// The slot in which a train was served, or where it still waits the one that is open to it.
-fn served_or(served: u8, waits: u8) -> u8
-    ensures { result ≡ cond (eqb served 0) waits served }
+// The slot in which a train was served; `waiting` where it was not served yet.
+fn served_or(served: u8, waiting: u8) -> u8
+    ensures { result ≡ cond (eqb served 0) waiting served }
 {
-    if served == 0 { waits } else { served }
+    if served == 0 { waiting } else { served }
 }
 
 // The day with its windows cut: a served train is bound to its slot, and the others to the open slots.

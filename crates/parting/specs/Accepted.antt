@@ -1,5 +1,4 @@
--- Accepted day files have no empty line, and each of their lines ends: joined with an empty line between and parted, any list of them comes
--- back, and the text has as many days as there were files.
+-- Lists of rows that each have a value, and of accepted day files. That such files, joined and parted, come back is proved in proofs/.
 -- Assumes nothing.
 use Rattle.std.specs.Prelude.{◌≡◌, List, [], ◌∷◌, ℕ, ◌≤◌, length}
 use Rattle.model.specs.Model.{Yard}

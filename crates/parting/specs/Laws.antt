@@ -1,5 +1,4 @@
--- What the parting of a text keeps: a text that is not empty has one day more than it has empty lines; its days, joined again, are the text;
--- and files without an empty line, each of whose lines ends, come back where they were joined.
+-- Files that come back where they were joined: those without an empty line, each of whose lines ends. That they do is proved in proofs/.
 -- Assumes nothing.
 use Rattle.std.specs.Prelude.{Bool, not, ◌&&◌, ℕ, ◌<◌, eqb, length}
 use Rattle.std.proofs.Math.Bool.{true, false, cond}

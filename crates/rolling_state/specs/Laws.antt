@@ -1,7 +1,7 @@
 -- The parts of the tests of a state, and of the call that closes a slot, come to their definitions; a sound state fits its arrays.
 -- Assumes nothing.
 use Rattle.std.proofs.Math.Path.{◌≡◌, refl}
-use Rattle.std.proofs.Common.{ap, sym, ◌∙◌, arith}
+use Rattle.std.proofs.Common.{sym, arith}
 use Rattle.std.specs.Prelude.{Bool, ◌&&◌, List, [], ◌∷◌, ℕ, ◌+◌, ◌≤◌, ◌<◌, T, length, Result, Ok, Err, is_ok, IsErrAnd}
 use Rattle.std.proofs.Math.Bool.{true, false}
 use Rattle.std.proofs.Math.Numerals.{add-one}
@@ -10,7 +10,7 @@ use borrow.Author.Tests.{eq-eqb, le-ltb, lt-ltb}
 use Rattle.fold.specs.Test.{is_true, is_false, of_true}
 use Rattle.fold.specs.Fold.{each}
 use Rattle.model.specs.Model.{Outcome, allowed}
-use Rattle.day.specs.Answer.{Answer, gives, refuses, refusal}
+use Rattle.day.specs.Answer.{gives, refuses, refusal}
 use Rattle.day.specs.Sound.{day_limits, sound}
 use Rattle.day.specs.SoundLaws.{sound_is}
 use Rattle.day.specs.declared.Limits.{Limits}
@@ -18,11 +18,10 @@ use Rattle.day.specs.declared.Refusal.{Refusal}
 use Rattle.counting.specs.declared.Value.{Value}
 use Rattle.valuing.specs.Valuing.{valued, answer as valuing}
 use Rattle.valuing.proofs.Laws.{valued-allowed, allowed-valued}
-use Rattle.rolling.specs.Rolling.{State, plan_of, close, state_sound, state_after, or_before}
+use Rattle.rolling.specs.Rolling.{State, plan_of, close, state_sound, state_after}
 use Rattle.rolling.specs.States.{sound_state}
-use Rattle.rolling_state.specs.States.{state_in, new_state, answer, Says, zero_past}
+use Rattle.rolling_state.specs.States.{new_state, zero_past}
 use Rattle.rolling_state.specs.declared.RollingState.{RollingState}
-use Rattle.rolling_state.specs.declared.Rolled.{Rolled}
 
 module _ (l : Limits) (s : State) where
   -- ---- a sound state
@@ -77,10 +76,6 @@ module _ (l : Limits) (s : State) where
 pub passed_on : (r : Result RollingState Refusal) (why : Refusal) → IsErrAnd r (λ e. e ≡ why) → new_state r ≡ refusal why
 passed_on (Err e) why h = rw h refl
 passed_on (Ok s) why h = absurd h
-
--- what is left, by the answer itself
-pub left_by : {before : State} {a : Answer State} {r : Rolled} → Says before a r → state_in r.state ≡ or_before before (answer r)
-left_by {before} {a} {r} s = s.left ∙ ap (or_before before) (sym s.said)
 
 -- the trains of a sound state fit its arrays
 pub few_trains : (s : State) → T (state_sound day_limits s) → (s.day.trains ≤ 12) × (s.closed ≤ 8)

@@ -45,7 +45,7 @@ fn compare_day(procedure: Procedure, day: Day, numbers: &mut [u64], saving: &mut
 }
 
 // Compares the day of a text: 10 where there is no room for four numbers, and then none changes.
-// Stays: it gives the number of a refusal, since it is the body of two C functions, `yard_myopic` among them.
+// Stays: it gives the number of a refusal, since it is the body of two C functions, `yard_first_come_first_served` and `yard_myopic`.
 pub fn compare_text(procedure: Procedure, text: &[u8], numbers: &mut [u64], saving: &mut i64) -> u64
     ensures value { result ≡ code (compare_text (row_by procedure) day_limits text.now (length numbers.old)) }
     ensures numbers_after { numbers.new ≡ numbers_after (outcomes (compare_text (row_by procedure) day_limits text.now (length numbers.old))) numbers.old }
