@@ -1,7 +1,7 @@
 -- The loop through the slots: the plans kept after the slots passed are held, and the slots after which more remained are counted.
 -- Assumes nothing.
 use Rattle.std.specs.Prelude.{◌≡◌, ℕ, suc, ◌+◌, ◌≤◌, ◌<◌, ltb, length}
-use Rattle.std.proofs.Common.{sym, ap, ◌∙◌, subst, add-one, le_antisymm, arith}
+use Rattle.std.proofs.Common.{sym, ap, subst, add-one, le_antisymm, arith}
 use mathlib.Core.List.Memᴰ
 use mathlib.Core.List.{List, [], ◌∷◌, Memᴰ}
 use Rattle.fold.specs.Fold.{bit, count, count_none, count_next}

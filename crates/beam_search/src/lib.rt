@@ -22,22 +22,36 @@ struct Found {
     full: usize,
 }
 
+// A plan without words: what stands at a place that holds none.
+const NO_PLAN: HeldPlan = HeldPlan {
+    cost: 0,
+    revisits: 0,
+    slot_sum: 0,
+    unserved: [0; 12],
+    rest: 0,
+};
+
+// No plan held. It is all zeros, so that it is written where it is to stand; a copy of another record would take 8 KB of stack more.
+fn nothing_held() -> Held {
+    Held {
+        plans: [NO_PLAN; 64],
+        count: 0,
+        dropped: false,
+    }
+}
+
 // What is held before the first slot: the plan that serves nobody.
 fn start(all: u64) -> Held
     ensures { Starts all result }
 {
-    let plan = HeldPlan {
-        cost: 0,
-        revisits: 0,
-        slot_sum: 0,
+    let mut held = nothing_held();
+    held.plans[0] = HeldPlan {
         unserved: [all; 12],
         rest: all,
+        ..NO_PLAN
     };
-    Held {
-        plans: [plan; 64],
-        count: 1,
-        dropped: false,
-    }
+    held.count = 1;
+    held
 }
 
 // Slot after slot, from the plans kept to the next ones.
@@ -46,7 +60,7 @@ fn search(first: &[u8], last: &[u8], day: &DayTables) -> Found
     ensures { SearchFinds day.now first.now last.now result.plan result.full }
 {
     let mut kept = start(day.sizes.all);
-    let mut next = kept;
+    let mut next = nothing_held();
     let mut full_slots: usize = 0;
     for j in 0..day.sizes.slots {
         let ready = tables::open_in(first, last, day.boxes.trains, (j + 1) as u8) as u64;

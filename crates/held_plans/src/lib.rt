@@ -28,26 +28,28 @@ pub struct Held {
     pub dropped: bool,
 }
 
-// Whether the plan x comes before the other, on a day of so many slots.
-pub fn comes_before(x: &HeldPlan, other: &HeldPlan, slots: usize) -> bool
-    requires { slots ≤ 12 }
-    ensures { result ≡ lower (slots + 3) (word x.now) (word other.now) }
+// Whether the first words of the plan x, of its sixteen, come before those of the other: its cost, its revisits, its sum of slots, the trains not
+// served in each slot, the trains that remain. On a day of so many slots their number and 3 say which of two plans is held first.
+pub fn comes_before(x: &HeldPlan, other: &HeldPlan, words: usize) -> bool
+    requires { words ≤ 16 }
+    ensures { result ≡ lower words (word x.now) (word other.now) }
 {
     if x.cost != other.cost {
-        return x.cost < other.cost;
+        return (0 < words) & (x.cost < other.cost);
     }
     if x.revisits != other.revisits {
-        return x.revisits < other.revisits;
+        return (1 < words) & (x.revisits < other.revisits);
     }
     if x.slot_sum != other.slot_sum {
-        return x.slot_sum < other.slot_sum;
+        return (2 < words) & (x.slot_sum < other.slot_sum);
     }
+    let slots = words.saturating_sub(3).min(12);
     for j in 0..slots {
         if x.unserved[j] != other.unserved[j] {
             return x.unserved[j] < other.unserved[j];
         }
     }
-    false
+    (15 < words) & (x.rest < other.rest)
 }
 
 // The place of the first plan that leaves `rest`.
@@ -62,7 +64,9 @@ fn find_later(plans: &[HeldPlan], x: &HeldPlan, slots: usize) -> Option<usize>
     requires { slots ≤ 12 }
     ensures { result ≡ position (λ p. lower (slots + 3) (word x.now) (word p)) plans.now }
 {
-    plans.iter().position(|plan| comes_before(x, plan, slots))
+    plans
+        .iter()
+        .position(|plan| comes_before(x, plan, slots + 3))
 }
 
 // The place of the plan that leaves `rest`, or the number of plans.

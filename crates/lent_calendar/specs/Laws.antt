@@ -1,15 +1,15 @@
--- A lent calendar: the header's words for dates, hours, closed dates and answers:
+-- A lent calendar: what the code's loop over the closed dates leaves, and the header's words for dates, hours, closed dates and answers:
 --   date-digits, date_once      a date's number has its year, month and day, and no other number has the same;
 --   week-hours                  opening and closing of weekday w are the lent numbers 2 w and 2 w + 1;
 --   closed_dates                closed date i is the lent number i;
 --   short-hours                 10 where fewer than fourteen hours are lent, whatever else is;
 --   slots_lent, window_lent     else what the calls answer.
 -- Assumes nothing.
-use Rattle.std.specs.Prelude.{◌≡◌, List, [], ◌∷◌, ℕ, ◌+◌, ◌*◌, ◌/◌, ◌%◌, ◌≤◌, ◌<◌, length, get_or, Result}
+use Rattle.std.specs.Prelude.{◌≡◌, cond, List, [], ◌∷◌, ℕ, ◌+◌, ◌*◌, ◌/◌, ◌%◌, ◌≤◌, ◌<◌, ltb, length, get_or, Result}
 use Rattle.std.proofs.Common.{sym, ap, ◌∙◌, arith}
-use borrow.Author.Tests.{le-leb, lt-leb}
-use Rattle.fold.specs.Listed.{listed_at}
-use Rattle.fold.specs.Column.{filled_at}
+use borrow.Author.Tests.{le-leb, lt-leb, lt-ltb}
+use Rattle.fold.specs.Listed.{listed_at, listed_ext}
+use Rattle.fold.specs.Column.{filled, filled_at, filled_end}
 use Rattle.day.specs.Answer.{refuses, code, judged}
 use Rattle.day.specs.declared.Refusal.{Refusal}
 use Rattle.refusals.specs.Numbers.{verdict_number, judged-number}
@@ -54,6 +54,17 @@ module _ (closed : List ℕ) where
   pub closed_dates : (i : ℕ) → i < 32 → i < length closed → closed_date (closed_of closed) i ≡ date_of (get_or closed i 0)
   unfolding closed_of
   closed_dates i h l = filled_at (date 0 0 0) 32 (length closed) (λ i. date_of (get_or closed i 0)) i h l
+
+  -- the loop's two ends: behind the last date that is lent, and behind the last place
+  pub closed_end : {r : List Date} (i : ℕ) → r ≡ filled (date 0 0 0) 32 i (λ i. date_of (get_or closed i 0)) → i ≤ length closed → length closed ≤ i → r ≡ closed_of closed
+  unfolding closed_of
+  closed_end i e a b = filled_end (date 0 0 0) 32 (λ i. date_of (get_or closed i 0)) i (length closed) e a b
+
+  pub closed_full : {r : List Date} (i : ℕ) → r ≡ filled (date 0 0 0) 32 i (λ i. date_of (get_or closed i 0)) → i ≤ length closed → 32 ≤ i → r ≡ closed_of closed
+  unfolding closed_of filled
+  closed_full i e a b =
+      e ∙ listed_ext 32 (λ k. cond (ltb k i) (date_of (get_or closed k 0)) (date 0 0 0)) (λ k. cond (ltb k (length closed)) (date_of (get_or closed k 0)) (date 0 0 0))
+      (λ k h. rw (lt-ltb k i (omega arith), lt-ltb k (length closed) (omega arith)))
 
 -- ---- the answers
 

@@ -5,8 +5,7 @@
 // header's words for it. Assumes nothing.
 #![tactic(auto)]
 
-ghost use Rattle.std.specs.Prelude.{◌≡◌, ◌+◌, ◌*◌, ◌≤◌, ◌<◌, cond, ltb, length, get_or};
-ghost use Rattle.dates.specs.Dates.{date};
+ghost use Rattle.std.specs.Prelude.{◌≡◌, ◌+◌, ◌*◌, ◌≤◌, ◌<◌, length};
 ghost use Rattle.day.specs.Answer.{code};
 ghost use Rattle.opening_hours.specs.Calendar.{slots_or_zero, window_or_zero};
 ghost use Rattle.lent_calendar.specs.LentCalendar.{date_of, hours_of, week_of, closed_of, calendar_of, slots_lent, window_lent};
@@ -17,6 +16,9 @@ use std::array;
 
 // The minutes of a week: opening and closing of seven weekdays.
 const HOURS: usize = 14;
+
+// The places of closed dates.
+const CLOSED: usize = 32;
 
 // A date from one number, year x 10,000 + month x 100 + day.
 fn date_of(number: u32) -> Date
@@ -47,22 +49,21 @@ fn week_of(hours: &[u32]) -> [Hours; 7]
     array::from_fn(|w| hours_of(hours, w))
 }
 
-// Closed date i, a date of zeros where there are no more.
-fn closed_at(closed: &[u32], i: usize) -> Date
-    ensures { result ≡ cond (ltb i (length closed.now)) (date_of (get_or closed.now i 0)) (date 0 0 0) }
-{
-    if i < closed.len() {
-        date_of(closed[i])
-    } else {
-        date_of(0)
-    }
-}
-
 // The closed dates; those past the 32nd have no place.
+// Stays: `for` over the places of two lists, and only of the dates that are lent: an `array::from_fn` makes all 32 places one by one, which takes
+// three to four tenths more of a call without closed dates.
 fn closed_of(closed: &[u32]) -> [Date; 32]
     ensures { result ≡ closed_of closed.now }
 {
-    array::from_fn(|i| closed_at(closed, i))
+    let mut dates = [Date {
+        year: 0,
+        month: 0,
+        day: 0,
+    }; 32];
+    for i in 0..closed.len().min(CLOSED) {
+        dates[i] = date_of(closed[i]);
+    }
+    dates
 }
 
 // The calendar of lent numbers. Its count is that of all dates lent, so that a 33rd is refused.

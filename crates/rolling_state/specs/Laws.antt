@@ -30,7 +30,7 @@ module _ (l : Limits) (s : State) where
   unfolding state_sound
   unsound_day e = rw e
 
-  not_allowed : {k : ℕ} {carries : List ℕ} → sound l s.day ≡ true → valued l s.day (plan_of s) ≡ refuses k carries → false ≡ state_sound l s
+  pub not_allowed : {k : ℕ} {carries : List ℕ} → sound l s.day ≡ true → valued l s.day (plan_of s) ≡ refuses k carries → false ≡ state_sound l s
   unfolding state_sound
   not_allowed {k} {carries} d e =
       let no : allowed s.day (plan_of s) ≡ false =
@@ -41,7 +41,7 @@ module _ (l : Limits) (s : State) where
       any true b = refl
       any false b = refl
 
-  allowed_rest : {o : Outcome} → valued l s.day (plan_of s) ≡ gives o → length s.row ≡ l.trains
+  pub allowed_rest : {o : Outcome} → valued l s.day (plan_of s) ≡ gives o → length s.row ≡ l.trains
       → (leb s.closed s.day.slots && each l.trains (zero_past s.day.trains s.row)) ≡ state_sound l s
   unfolding state_sound
   allowed_rest {o} e long =

@@ -32,7 +32,7 @@ fn comes_too_late(next: &Held, x: &HeldPlan, width: usize, slots: usize) -> bool
 {
     next.dropped
         && next.count == width
-        && !held_plans::comes_before(x, &next.plans[next.count - 1], slots)
+        && !held_plans::comes_before(x, &next.plans[next.count - 1], slots + 3)
 }
 
 // The set s of the plan, in slot j + 1, at its price: offered, unless it comes too late or what it leaves is discarded.

@@ -49,7 +49,16 @@ pub fn state_of(text: &[u8], closed: u32, row: &[u8]) -> Rolled
     ensures result_value { answer result ≡ kept_state day_limits text.now closed row.now }
     ensures state_value { state_in result.state ≡ or_before zero_state (answer result) }
 {
-    rolling_state::told(rolling_state::zero_state(), kept(text, closed, row))
+    match kept(text, closed, row) {
+        Ok(state) => Rolled {
+            verdict: Ok(()),
+            state,
+        },
+        Err(why) => Rolled {
+            verdict: Err(why),
+            state: rolling_state::zero_state(),
+        },
+    }
 }
 
 // Tells the numbers of a state whose day file has this many bytes: closed slots, trains, bytes, 0.

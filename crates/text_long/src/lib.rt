@@ -27,6 +27,7 @@ use long_planning::LongValue;
 
 // Whether a text is a long day's file: 0, or the number of the refusal and its line.
 // Stays: it gives the number of a refusal, since it is the body of the C function `yard_long_check`.
+#[tactic(auto, using(text_value::specs::Laws::told_code, text_value::specs::Laws::told_line))]
 pub fn check_long_text(text: &[u8], at: &mut u64) -> u64
     ensures value { result ≡ code (read_day long_limits text.now) }
     ensures at_after { at.new ≡ line (read_day long_limits text.now) }

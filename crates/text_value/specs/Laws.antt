@@ -1,10 +1,12 @@
 -- Each answer of valuing a row for a text, from what the code has found.
 -- Assumes nothing.
 use Rattle.std.specs.Prelude.{◌≡◌, refl, true, false, List, ℕ, leb, length, Result, Ok, Err}
+use Rattle.std.proofs.Common.{ap, ◌∙◌}
 use Rattle.model.specs.Model.{Yard, Outcome}
 use Rattle.day.specs.Answer.{Answer, code, on_given, judged}
 use Rattle.day.specs.declared.Limits.{Limits}
 use Rattle.day.specs.declared.Refusal.{Refusal}
+use Rattle.refusals.specs.Numbers.{verdict_number, judged-number}
 use Rattle.valuing.specs.Valuing.{valued}
 use Rattle.dayfile.specs.Reading.{read_day}
 use Rattle.telling.specs.Telling.{number_count, numbers_after, verdict_line}
@@ -25,3 +27,11 @@ module _ (l : Limits) (text numbers : List ℕ) where
 pub judged-line : (v : Result Unit Refusal) (y : Yard) → verdict_line v ≡ line (judged v y)
 judged-line (Ok u) y = refl
 judged-line (Err r) y = refl
+
+-- so what a check tells, from what reading answers
+module _ (v : Result Unit Refusal) (y : Yard) (a : Answer Yard) where
+  pub told_code : judged v y ≡ a → verdict_number v ≡ code a
+  told_code e = judged-number v y ∙ ap code e
+
+  pub told_line : judged v y ≡ a → verdict_line v ≡ line a
+  told_line e = judged-line v y ∙ ap line e

@@ -17,6 +17,7 @@ use day::Refusal;
 
 // Whether a text is a day file: 0, or the number of the refusal and its line.
 // Stays: it gives the number of a refusal, since it is the body of the C function `yard_check`.
+#[tactic(auto, using(crate::specs::Laws::told_code, crate::specs::Laws::told_line))]
 pub fn check_text(text: &[u8], at: &mut u64) -> u64
     ensures value { result ≡ code (read_day day_limits text.now) }
     ensures at_after { at.new ≡ line (read_day day_limits text.now) }

@@ -3,7 +3,6 @@ use Rattle.std.proofs.Common.{◌≡◌, ◌+◌, ap, ◌∙◌, subst, add-one,
 use mir.Val.{bool_byte}
 use Rattle.fold.specs.Fold.{bit}
 use Rattle.staging.specs.Tables.{open_in}
-use Rattle.candidates.specs.Given.{yard_in}
 use Rattle.beam_search.specs.Start.{Starts, start_low, start_holds}
 use Rattle.beam_search.specs.Slots.{trains_of, day_in, after_none, after_next, after_all}
 use Rattle.beam_search.proofs.search.Goals as goal

@@ -1,5 +1,5 @@
 -- `beam_search::search` meets its contract. The loop's invariant: the plans kept after the slots passed are held.
-use Prim.Native.Nat.{◌≤◌, ◌-◌}
+use Prim.Native.Nat.{◌≤◌}
 use Rattle.set_serving.specs.Serving.{PlanArray}
 use Rattle.beam_search.specs.Slots.{SearchAfter}
 use Rattle.beam_search.proofs.search.Given as goal

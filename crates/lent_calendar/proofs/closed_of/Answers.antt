@@ -1,9 +1,18 @@
-use Rattle.std.proofs.Common.{rules, refl, get_or}
-use Rattle.fold.proofs.Filled.{made_filled}
-use Rattle.dates.specs.Dates.{date}
-use Rattle.lent_calendar.specs.LentCalendar.{date_of, closed_of}
+use Rattle.std.proofs.Common.{arith, rules, length, ⊎_elim}
+use Rattle.fold.specs.Column.{filled_none, filled_fill}
+use Rattle.fold.specs.Counting.{le_or_lt}
+use Rattle.lent_calendar.specs.Laws.{closed_end, closed_full}
 use Rattle.lent_calendar.proofs.closed_of.Goals as goal
 
+pub loop-i-init : goal.loop-i-init
+loop-i-init c = (omega arith, omega arith, filled_none _ _ _)
+
+pub loop-i-preserved : goal.loop-i-preserved
+loop-i-preserved c =
+    let inv = c.loop-i.invariant in
+    (search rules, search rules, filled_fill _ _ _ _ _ inv.2 (search rules) c.date_of.ensures)
+
 pub returns : goal.returns
-unfolding closed_of
-returns c = made_filled _ _ _ (λ x r q k. search rules) (date 0 0 0) c.from_fn.result 32 _ (λ i. date_of (get_or c.args.closed.now i 0)) c.from_fn.ensures.items (λ i h. refl)
+returns c =
+    let inv = c.loop-i.invariant in
+    ⊎_elim (λ h. closed_end _ _ inv.2 inv.0 (omega arith)) (λ h. closed_full _ _ inv.2 inv.0 (omega arith)) (le_or_lt (length c.args.closed.now) 32)

@@ -1,11 +1,8 @@
 -- `text_long::plan_long_text` meets its contract. The room, then the two cases of reading.
 use Rattle.std.specs.Prelude.{◌≡◌, true, leb, length}
-use Rattle.std.proofs.Math.Path.{sym, ap}
-use Rattle.std.proofs.Common.{◌∙◌}
+use Rattle.std.proofs.Math.Path.{sym}
 use borrow.Author.Tests.{le-leb, lt-leb}
-use Rattle.day.specs.Answer.{gives, refusal, judged}
-use Rattle.dayfile.specs.Reading.{read_day}
-use Rattle.long_day.specs.LongDay.{long_limits, long_yard}
+use Rattle.long_day.specs.LongDay.{long_yard}
 use Rattle.text_long.specs.TextLong.{long_number_count}
 use Rattle.text_long.specs.Laws.{plans_nothing, plans_refused, plans_day}
 use Rattle.text_long.proofs.plan_long_text.Goals as goal
