@@ -50,8 +50,8 @@ fn week_of(hours: &[u32]) -> [Hours; 7]
 }
 
 // The closed dates; those past the 32nd have no place.
-// Stays: `for` over the places of two lists, and only of the dates that are lent: an `array::from_fn` makes all 32 places one by one, which takes
-// three to four tenths more of a call without closed dates.
+// Stays: `for` over the places of two lists, and only of the dates that are lent: an `array::from_fn` makes all 32 places one by one, over four
+// tenths more instructions of a call without closed dates.
 fn closed_of(closed: &[u32]) -> [Date; 32]
     ensures { result ≡ closed_of closed.now }
 {

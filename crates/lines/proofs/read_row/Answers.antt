@@ -10,7 +10,7 @@ pub returns-in_err-field : goal.returns-in_err-field
 returns-in_err-field g c =
     let end : EndsField (g.row.N - suc c.loop-i.i) c.if-i.end =
     elim c.if-i.branch [
-      | then-i w ↦ record { last = λ e. w.end-is; others = λ h. absurd (omega arith) }
+      | then-i w ↦ record { last = λ e. omega (arith, w.end-is); others = λ h. absurd (omega arith) }
       | else-i w ↦ record { last = λ e. absurd (omega arith); others = λ h. w.end-is }
     ] in
     rw c.from_residual.ensures (row_fails _ _ c.loop-i.invariant _ c.loop-i-test.true end c.in_err-field.ensures)
@@ -19,7 +19,7 @@ pub loop-i-preserved : goal.loop-i-preserved
 loop-i-preserved g c =
     let end : EndsField (g.row.N - suc c.loop-i.i) c.if-i.end =
     elim c.if-i.branch [
-      | then-i w ↦ record { last = λ e. w.end-is; others = λ h. absurd (omega arith) }
+      | then-i w ↦ record { last = λ e. omega (arith, w.end-is); others = λ h. absurd (omega arith) }
       | else-i w ↦ record { last = λ e. absurd (omega arith); others = λ h. w.end-is }
     ] in
     let field = c.in_ok-field.ensures in
