@@ -1,4 +1,5 @@
--- The account of a day, its closed slots and the served slots; and the ends of a position's cut window, case by case.
+-- The account of a day, its closed slots and the served slots; and the ends of a position's cut window, case by case, for a reader:
+-- `cut_day` is proved from the definitions themselves.
 -- Assumes nothing.
 use Rattle.std.specs.Prelude.{◌≡◌, List}
 use Prim.Native.Nat.{ℕ, suc, ◌+◌, ◌≤◌, ◌<◌}

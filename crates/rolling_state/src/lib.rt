@@ -23,8 +23,7 @@ pub struct RollingState {
 
 // The new state; or a refusal, and the state as it was given (of `begin`, which is given none, zeros).
 // Stays: a verdict beside a state, and no Result of a state: a refused call gives back the state as before (clauses `state_value` of `begin`,
-// `close`, `cancel`, `add` and `set_boxes`). `told` makes one, and
-// state_text's `state_of` that of a kept state.
+// `close`, `cancel`, `add` and `set_boxes`). `told` makes one, and `state_of` of state_text that of a kept state.
 #[derive(Clone, Copy)]
 pub struct Rolled {
     pub verdict: Result<(), Refusal>,
